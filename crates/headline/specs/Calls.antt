@@ -1,7 +1,7 @@
 -- What a client acts it acts for its items: of blocks it is one stretch of the call that the open item asks for, over all events since the item began, and what no
 -- item asks for is not acted.
 use Rattle.std.specs.List.{filter}
-use Rattle.std.specs.Prelude.{◌≡◌, ◌+◌, ℕ, Bool, true, false, List, [], ◌∷◌, ◌++◌, Option, Some, None}
+use Rattle.std.specs.Prelude.{◌≡◌, ◌+◌, ℕ, suc, Bool, true, false, if◌then◌else◌, is_some, List, [], ◌∷◌, ◌++◌, Option, Some, None}
 use Rattle.client_call.specs.Calls.{plan_answered}
 use Rattle.client_call.specs.declared.call.Call.{Call}
 use Rattle.client_call.specs.declared.call.Going.{Going}
@@ -14,11 +14,14 @@ use Rattle.client_node.specs.Phases.{client_step, lasting_of}
 use Rattle.client_running.specs.Blocks.{is_settled}
 use Rattle.client_running.specs.Opens.{call_at}
 use Rattle.client_serving.specs.declared.serving.Serving.{Serving}
+use Rattle.client_serving.specs.Flights.{held_at}
 use Rattle.file_plan.specs.declared.block_call.BlockAnswer.{BlockAnswer}
 use Rattle.file_plan.specs.declared.block_call.BlockAnswer.TheVariants.{Changed, Got, Synced, Put as Written}
 use Rattle.file_plan.specs.declared.block_call.BlockCall.{BlockCall}
 use Rattle.file_plan.specs.declared.block_call.BlockCall.TheVariants.{Get, Put, PutAt, Sync}
 use Rattle.node_base.specs.Beginning.{next_item, work_at}
+use Rattle.token_client.specs.declared.held.Held.{Held}
+use Rattle.token_client.specs.Held.{held_new}
 use Rattle.version_model.specs.declared.act.Act.{Act}
 use Rattle.version_model.specs.declared.act.Act.TheVariants as act
 use Rattle.version_model.specs.declared.act.Fall.{Fall}
@@ -28,9 +31,12 @@ use Rattle.version_model.specs.declared.work.Work.{Work}
 use Rattle.version_model.specs.declared.work.Work.TheVariants as work
 use Rattle.wire_msg.specs.declared.packet.Do.{Do}
 use Rattle.wire_msg.specs.declared.packet.Do.TheVariants.{Begin}
+use Rattle.xfs_base.specs.Blocks.{same_block}
+use Rattle.xfs_base.specs.declared.block.BlockId.{BlockId}
 use Rattle.xfs_base.specs.declared.node.NodeId.{NodeId}
 use Rattle.xfs_base.specs.declared.node.NodeId.TheVariants as nodes
 use Rattle.xfs_base.specs.declared.segment.SegName.{SegName}
+use Rattle.xfs_base.specs.Modes.{is_held}
 
 -- Of which kind an answer to a call on blocks is. What is written at a named version is the next one.
 abbrev pub IsAnswerTo : BlockCall → BlockAnswer → Type 0
@@ -49,10 +55,9 @@ told client (PutAt block named value) (Written ver) = act.Wrote client block val
 told client Sync Synced = act.Synced client ∷ []
 told client _ _ = []
 
--- it is done for an item, or ends one: no segment is filed, given up or lost by it
+-- it is done for an item, or ends one: no segment is filed or lost by it; and segments are given up by no client
 abbrev pub is_of_items : Act → Bool
 is_of_items (act.Filed seg) = false
-is_of_items (act.Dropped seg) = false
 is_of_items (act.Lost node seg) = false
 is_of_items _ = true
 
@@ -75,6 +80,34 @@ pub data Stretch (client : ℕ) (item : Option ℕ) : Going → List Act → Opt
   -- It is done: its item is answered, and nothing is acted behind.
   Finishes : (a : Answer) → Stretch client item (Ends a) (answered_so (nodes.Client client) item a) None
 
+-- how often a block is written by these acts
+abbrev pub writes_of : BlockId → List Act → ℕ
+writes_of b [] = 0
+writes_of b (act.Wrote client block value ∷ acts) = if same_block block b then suc (writes_of b acts) else writes_of b acts
+writes_of b (_ ∷ acts) = writes_of b acts
+
+-- it is held with a value, of the version that is so many after this one
+pub record IsHeldAfter (h : Held) (ver more : ℕ) : Type 0 where
+  pub held : is_held h.mode ≡ true
+  pub valued : is_some h.value ≡ true
+  pub version : h.ver ≡ ver + more
+
+-- a block that was written so is held then, and its version has risen by one wherever these acts write it
+abbrev pub IsHeldSince : (BlockId → Held) → BlockCall → BlockAnswer → List Act → Type 0
+IsHeldSince now (Put block value) (Written ver) acts = IsHeldAfter (now block) ver (writes_of block acts)
+IsHeldSince now (PutAt block named value) (Written ver) acts = IsHeldAfter (now block) ver (writes_of block acts)
+IsHeldSince now _ _ acts = Unit {0}
+
+-- A stretch of one event, behind which blocks are held so: what it writes is held since.
+pub data EventStretch (client : ℕ) (item : Option ℕ) (now : BlockId → Held) : Going → List Act → Option Call → Type 0 where
+  -- It waits for the answer of its call on blocks.
+  Awaits : {call new : Call} → new.plan ≡ call.plan → new.step ≡ call.step → EventStretch client item now (On call) [] (Some new)
+  -- Its call on blocks is answered so: that is acted, what it wrote is held behind the event, and then it goes on as its plan says.
+  Follows : {call : Call} {acts : List Act} {after : Option Call} (a : BlockAnswer) → IsAnswerTo call.step a → IsHeldSince now call.step a acts
+      → EventStretch client item now (plan_answered call.plan a) acts after → EventStretch client item now (On call) (told client call.step a ++ acts) after
+  -- It is done: its item is answered.
+  Concludes : (a : Answer) → EventStretch client item now (Ends a) (answered_so (nodes.Client client) item a) None
+
 -- the open call of a client that serves
 abbrev pub call_in : Phase → Option Call
 call_in (Down l) = None
@@ -84,6 +117,12 @@ call_in (Serves s) = s.call
 -- the item that is open
 abbrev pub open_in : Phase → Option ℕ
 open_in p = (lasting_of p).items.unanswered
+
+-- what a client that serves holds of each block
+abbrev pub held_in : Phase → BlockId → Held
+held_in (Down l) = λ b. held_new
+held_in (Opening l o) = λ b. held_new
+held_in (Serves s) = held_at s
 
 -- where a call is open, an item is
 abbrev pub CallHasItem : Phase → Type 0
@@ -149,11 +188,11 @@ pub data Acts (client : ℕ) (p : Phase) (what : Do) : List Act → Phase → Ty
       → Acts client p what (act.Answered (nodes.Client client) number a ∷ []) q
   -- The call that is open goes on.
   GoesOn : {q : Phase} {acts : List Act} (call : Call) → call_in p ≡ Some call → ItemStays (open_in p) q → SyncDrains (On call) q
-      → Stretch client (open_in p) (On call) acts (call_in q) → Acts client p what acts q
+      → EventStretch client (open_in p) (held_in q) (On call) acts (call_in q) → Acts client p what acts q
   -- A call of the item that begins is opened, while none is open, and goes on.
   Begins : {s : Serving} {q : Phase} {acts : List Act} (number : ℕ) (wanted : Option Work) (going : Going) → p ≡ Serves s → IsBegun p what number wanted
       → open_in p ≡ None → call_at s number wanted ≡ Some going → ItemStays (Some number) q → SyncDrains going q
-      → Stretch client (Some number) going acts (call_in q) → Acts client p what acts q
+      → EventStretch client (Some number) (held_in q) going acts (call_in q) → Acts client p what acts q
   -- A segment is lost, and the open item is answered so.
   Loses : {q : Phase} (name : SegName) → call_in q ≡ None → open_in q ≡ None
       → Acts client p what (answered_so (nodes.Client client) (open_in p) (answer.Lost name)) q

@@ -1,5 +1,5 @@
 -- What is due: each node serves until a crash of it begins, and what is due as an item begins is answered in that event.
-use Rattle.std.specs.Prelude.{◌≡◌, ◌⊎◌, ℕ, suc, Bool, true, List, [], ◌∷◌, ◌++◌, Option, Some, None, map, slice_get}
+use Rattle.std.specs.Prelude.{◌≡◌, ◌⊎◌, ◌<◌, ◌+◌, ℕ, suc, Bool, true, List, [], ◌∷◌, ◌++◌, Option, Some, None, map, slice_get}
 use Rattle.cleaner_node.specs.CleanerEvents as cleaners
 use Rattle.cleaner_node.specs.declared.cleaner.Phase.{Phase as CleanerPhase}
 use Rattle.cleaner_node.specs.declared.cleaner.Phase.TheVariants as cleaning
@@ -10,12 +10,17 @@ use Rattle.client_node.specs.Phases as clients
 use Rattle.core_world.specs.AnyNode.{any_step}
 use Rattle.core_world.specs.declared.any_node.AnyNode.{AnyNode}
 use Rattle.core_world.specs.declared.any_node.AnyNode.TheVariants as any
+use Rattle.fragment_store.specs.ShelfState.{ShelfState}
 use Rattle.manager_node.specs.declared.phase.Phase.{Phase as ManagerPhase}
 use Rattle.manager_node.specs.declared.phase.Phase.TheVariants as manager
 use Rattle.manager_node.specs.Phases as managers
 use Rattle.node_base.specs.Beginning.{next_item}
+use Rattle.node_base.specs.declared.items.Items.{Items}
+use Rattle.node_base.specs.Nodes.{others}
 use Rattle.node_base.specs.Room.{has_room}
 use Rattle.registry.specs.Board.{can_move}
+use Rattle.registry_node.specs.declared.node.RegistryNode.{RegistryNode}
+use Rattle.registry_node.specs.Events.{news_of}
 use Rattle.store_nodes.specs.ServerEvents as storing
 use Rattle.token_client.specs.State.{dirty_in}
 use Rattle.token_protocol.specs.Basics.{In}
@@ -25,8 +30,11 @@ use Rattle.version_model.specs.declared.answer.Answer.{Answer}
 use Rattle.version_model.specs.declared.answer.Answer.TheVariants as answer
 use Rattle.version_model.specs.declared.work.Work.{Work}
 use Rattle.version_model.specs.declared.work.Work.TheVariants as work
+use Rattle.wire_msg.specs.declared.body.Body.TheVariants as body
 use Rattle.wire_msg.specs.declared.packet.Do.{Do}
 use Rattle.wire_msg.specs.declared.packet.Do.TheVariants.{Begin}
+use Rattle.wire_msg.specs.declared.packet.Packet.{Packet}
+use Rattle.wire_msg.specs.declared.registry.News.{News}
 use Rattle.wire_msg.specs.NodeStep.{NodeStep}
 use Rattle.world_base.specs.Cluster.{place_of}
 use Rattle.world_base.specs.declared.estate.Estate.{Estate}
@@ -36,31 +44,40 @@ use Rattle.world_base.specs.Events.{node_of, what_of}
 use Rattle.world_base.specs.Items.{items_of}
 use Rattle.world_base.specs.NextWorld.{clock_at, sent_at}
 use Rattle.xfs_base.specs.declared.node.NodeId.{NodeId}
+use Rattle.xfs_base.specs.declared.node.NodeId.TheVariants.{Registry}
 use Rattle.xfs_base.specs.declared.segment.SegName.{SegName}
+use Rattle.xfs_base.specs.Limits.{slot_count}
 use Rattle.headline.specs.Items.{IsOpen, asked_at, items_in, name_in}
 use Rattle.headline.specs.Moments.{acts_in, moment, node_named}
-use Rattle.headline.specs.Standings.{Falls, GivesSlot, standing}
+use Rattle.headline.specs.Standings.{GivesSlot, IsCall, IsRestart, Standing, standing}
 use Rattle.headline.specs.Standings.Standing.{Fallen, Opens, Serves}
 
-abbrev pub client_rests : ClientPhase → Type 0
-client_rests (client.Down l) = l.items.unanswered ≡ None
-client_rests _ = Unit {0}
+-- an item is open
+abbrev pub HasOpen : Items → Type 0
+HasOpen items = (item : ℕ) × IsOpen items item
 
-abbrev pub cleaner_rests : CleanerPhase → Type 0
-cleaner_rests (cleaning.Down l) = l.items.unanswered ≡ None
-cleaner_rests _ = Unit {0}
+abbrev pub client_items_fit : ClientPhase → Type 0
+client_items_fit (client.Down l) = l.items.unanswered ≡ None
+client_items_fit (client.Opening l o) = HasOpen l.items
+client_items_fit (client.Serving s) = Unit {0}
 
-abbrev pub manager_rests : ManagerPhase → Type 0
-manager_rests (manager.Down l) = l.items.unanswered ≡ None
-manager_rests (manager.Waiting l hello) = l.items.unanswered ≡ None
-manager_rests _ = Unit {0}
+abbrev pub cleaner_items_fit : CleanerPhase → Type 0
+cleaner_items_fit (cleaning.Down l) = l.items.unanswered ≡ None
+cleaner_items_fit (cleaning.Opening l o) = HasOpen l.items
+cleaner_items_fit (cleaning.Serving e) = Unit {0}
 
--- no item is open of a node that has fallen, nor of a manager that awaits the maps
-abbrev pub Rests : AnyNode → Type 0
-Rests (any.Client c) = client_rests c.phase
-Rests (any.Manager m) = manager_rests m.phase
-Rests (any.Cleaner c) = cleaner_rests c.phase
-Rests _ = Unit {0}
+abbrev pub manager_items_fit : ManagerPhase → Type 0
+manager_items_fit (manager.Down l) = l.items.unanswered ≡ None
+manager_items_fit (manager.Waiting l hello) = l.items.unanswered ≡ None
+manager_items_fit _ = Unit {0}
+
+-- no item is open of a node that has fallen, nor of a manager that awaits the maps, nor of the registry; and one is of a node that opens its log
+abbrev pub ItemsFit : AnyNode → Type 0
+ItemsFit (any.Client c) = client_items_fit c.phase
+ItemsFit (any.Manager m) = manager_items_fit m.phase
+ItemsFit (any.Server v) = Unit {0}
+ItemsFit (any.Cleaner c) = cleaner_items_fit c.phase
+ItemsFit (any.Registry r) = r.items.unanswered ≡ None
 
 -- the event begins the item of this number, which asks for this
 pub record BeginsWork (node : AnyNode) (what : Do) (number : ℕ) (wanted : Option Work) : Type 0 where
@@ -106,8 +123,8 @@ module _ (node : AnyNode) (what : Do) (s : NodeStep AnyNode) where
     pub fallen : standing node ≡ Fallen → (standing s.node ≡ Fallen) ⊎ Restarts
     -- it neither acts nor sends where no item begins
     pub silent : standing node ≡ Fallen → BeginsNone node what → (s.acts ≡ []) × (s.packets ≡ [])
-    -- and it has no item open
-    pub rests : Rests node → Rests s.node
+    -- and what is open fits then
+    pub items_fit : ItemsFit node → ItemsFit s.node
 
 -- each counter of a node is at least 65,536 below its end: where one isn't, an event changes nothing
 abbrev pub has_counters : AnyNode → Bool
@@ -142,6 +159,27 @@ abbrev pub fell_in : AnyNode → List Act
 fell_in (any.Client c) = client_fell c.phase
 fell_in _ = []
 
+-- all that a server held is lost with its disk: its next generation begins, with an empty shelf
+pub record IsEmptied (before after : ShelfState) : Type 0 where
+  pub generation : after.generation ≡ before.generation + 1
+  pub held : after.held ≡ []
+  pub fences : after.fences ≡ []
+  pub marks : after.marks ≡ []
+
+abbrev pub LosesDisk : AnyNode → AnyNode → Type 0
+LosesDisk (any.Server v) (any.Server u) = IsEmptied v.shelf u.shelf
+LosesDisk _ _ = ⊥
+
+-- a packet by which the registry tells a node these maps
+abbrev pub told_maps : News → NodeId → Packet
+told_maps news to = record { from = Registry; to = to; clock = 0; body = body.MapNews news }
+
+-- the maps are newer by one, and each other node is told them
+abbrev pub TellsMaps : AnyNode → AnyNode → List Packet → Type 0
+TellsMaps (any.Registry r) (any.Registry now) packets =
+    (now.board.version ≡ r.board.version + 1) × (packets ≡ map (told_maps (news_of now.board)) (others r.peers Registry))
+TellsMaps _ _ packets = ⊥
+
 -- of a node of which the item of this number begins by this step
 module _ (node : AnyNode) (number : ℕ) (s : NodeStep AnyNode) where
   -- the item is answered so at once: the node does nothing else, and stands as before
@@ -156,16 +194,17 @@ module _ (node : AnyNode) (number : ℕ) (s : NodeStep AnyNode) where
     pub packets : s.packets ≡ []
     pub falls : standing s.node ≡ Fallen
 
-  -- what is open is cut, then the item is done, and all that was held is lost
+  -- what is open is cut, then the item is done, and the disk is lost
   pub record LossIsDone : Type 0 where
     pub acts : s.acts ≡ cut_open (name_in node) (items_in node).unanswered ++ act.Answered (name_in node) number answer.Done ∷ []
-    pub falls : Falls node s.node
+    pub loses : LosesDisk node s.node
 
-  -- the slot is given to the manager, and its next epoch is the answer
+  -- the slot is given to the manager, its next epoch is the answer, and the maps are told
   pub record MoveIsDone (slot manager : ℕ) : Type 0 where
     pub epoch : ℕ
     pub acts : s.acts ≡ act.Answered (name_in node) number (answer.Epoch epoch) ∷ []
     pub gives : GivesSlot node s.node slot manager epoch
+    pub tells : TellsMaps node s.node s.packets
 
   -- a client and the cleaner open their logs again, and the item is open from then on; a manager's next incarnation begins, and the item is done
   abbrev pub RestartBegins : AnyNode → Type 0
@@ -179,6 +218,13 @@ module _ (node : AnyNode) (number : ℕ) (s : NodeStep AnyNode) where
   IsDue (work.Lose server) = LossIsDone
   IsDue (work.Move slot manager) = CanGive node slot → MoveIsDone slot manager
   IsDue _ = ((standing node ≡ Serves → ⊥) → Refuses answer.Down) × ((item : ℕ) → standing node ≡ Serves → IsOpen (items_in node) item → Refuses answer.Busy)
+
+-- Of a node that stands so, whose items ask for this: where it has fallen no item is open, where it opens its log one is, a restart, and where it serves one may
+-- be, a call.
+abbrev pub WaitsSo : Standing → Items → (ℕ → Option Work) → Type 0
+WaitsSo Fallen items asked = items.unanswered ≡ None
+WaitsSo Opens items asked = (item : ℕ) × (IsOpen items item × IsRestart (asked item))
+WaitsSo Serves items asked = (item : ℕ) → IsOpen items item → IsCall (asked item)
 
 -- the clock of the event would pass the end of all clocks
 abbrev pub PassesClocks : World AnyNode → Event → Type 0
@@ -204,7 +250,7 @@ module _ (e : Estate AnyNode) where
     pub turn : NothingComes count event ⊎ TakesTurn count event before
     -- by this step a node that serves does so on but for a crash, and one that has fallen stays so but for a restart
     pub stands : KeepsStanding before (what_of event) (any_step before (what_of event))
-    pub rests : Rests before
+    pub items_fit : ItemsFit before
     -- and what is due to the item that begins, which asks for this, is answered
     pub due : (number : ℕ) (wanted : Work) → what_of event ≡ Begin → next_item (items_in before) ≡ Some number
         → asked_at (items_of e.script.lines (node_of event)) number ≡ Some wanted → has_counters before ≡ true
@@ -213,5 +259,12 @@ module _ (e : Estate AnyNode) where
   pub record AnswersDue : Type 0 where
     -- at the start each node serves
     pub starts : (name : NodeId) (x : AnyNode) → node_named (moment e 0) name ≡ Some x → standing x ≡ Serves
+    -- at each moment what is open fits where the node stands
+    pub waits : (count : ℕ) (name : NodeId) (x : AnyNode) → node_named (moment e count) name ≡ Some x
+        → WaitsSo (standing x) (items_in x) (λ item. asked_at (items_of e.script.lines name) item)
+    -- and the registry can give each slot anew, while the version of its maps is far from its end
+    pub gives : (count slot : ℕ) (r : RegistryNode) → node_named (moment e count) Registry ≡ Some (any.Registry r) → has_counters (any.Registry r) ≡ true
+        → slot < slot_count → CanGive (any.Registry r) slot
+    -- so it is in each event
     pub events : (count : ℕ) (event : Event) → slice_get e.events count ≡ Some event → (before : AnyNode)
         → node_named (moment e count) (node_of event) ≡ Some before → DueAt count event before

@@ -9,9 +9,11 @@ use Rattle.headline.specs.Horizons.{HorizonsReached}
 use Rattle.headline.specs.Indexes.{IndexesAreItsOwn}
 use Rattle.headline.specs.Managers.{OneManagerThroughout}
 use Rattle.headline.specs.Owners.{OneOwnerThroughout}
+use Rattle.headline.specs.Replies.{AnswersQuestions}
 use Rattle.headline.specs.Segments.{CleanersLogStands, LogsStand, ManagersLogsStand}
 use Rattle.headline.specs.Stripes.{FiledIsReadBack}
 use Rattle.headline.specs.Versions.{HoldersAreNewestThroughout}
+use Rattle.headline.specs.Waits.{CallsWait, WantsAgain}
 
 -- Of each run of the xFS nodes, whatever messages are lost, repeated or reordered and whichever nodes stop:
 pub record InsideIsSafe (e : Estate AnyNode) : Type 0 where
@@ -26,6 +28,11 @@ pub record InsideIsSafe (e : Estate AnyNode) : Type 0 where
   pub beliefs : BelievedThroughout e
   -- nobody holds what a client fell with until it is back
   pub nobody_holds : NobodyHoldsThroughout e
+  -- a client whose call is open has asked for what the call lacks, at each moment, and sends each want again whenever time passes
+  pub calls_wait : CallsWait e
+  pub wants_again : WantsAgain e
+  -- a server, a manager and the registry answer what they are asked in the event in which it comes, and a shelf changes only as it is asked to
+  pub questions_answered : AnswersQuestions e
   -- what was filed, and was not deleted, stands on the servers' shelves but for lost disks, and one name has one text: in the logs of each kind of owner
   pub logs_stand : LogsStand e
   pub cleaners_log_stands : CleanersLogStands e

@@ -10,11 +10,15 @@ use Rattle.headline.specs.Files.{FileAnswersArePlanned}
 use Rattle.headline.specs.ItemActs.{CallsAreAnswered, CallsGoOn, ClientsActForItems, OpenCallsHaveRun}
 use Rattle.headline.specs.Items.{ItemsAnsweredOnce}
 use Rattle.headline.specs.Linear.{IsLinearizable}
-use Rattle.headline.specs.Losses.{EachLostActIsEarned, LostAnswersEarned}
+use Rattle.headline.specs.Losses.{EachLostActIsEarned, LostAnswersEarned, WithoutLossesNothingIsLost}
+use Rattle.headline.specs.Numbers.{NumbersAreTrue}
+use Rattle.headline.specs.OneMachine.{CallsAsOneMachine}
 use Rattle.headline.specs.Restarts.{LosesNone, NoDoubtfulRestart}
 use Rattle.headline.specs.Settled.{BlocksAreSettled}
 use Rattle.headline.specs.Standings.{AnswersFit}
 use Rattle.headline.specs.Syncs.{SyncsSettle}
+use Rattle.headline.specs.Turns.{AnswersInTurn, BeginsInTurn, CrashesAreFelt}
+use Rattle.headline.specs.Updates.{NoUpdateIsLost}
 use Rattle.headline.specs.Versions.{LegalActs, LegalWithoutLosses}
 
 -- Clients act for their items, and for nothing else.
@@ -31,7 +35,7 @@ pub record ActsBelongToItems (e : Estate AnyNode) : Type 0 where
 pub record LossesEarned (e : Estate AnyNode) : Type 0 where
   -- each act that a segment is lost is of the node that has its turn, and it is earned: while it opens its log, to a takeover, or to a read
   pub each : EachLostActIsEarned e
-  -- and no item is answered that a segment is lost but where its node says so before, in the same event, and has begun it
+  -- and no item is answered that a segment is lost but where its node says so just before, in the same event, and has begun it
   pub answers : LostAnswersEarned e
 
 -- where the script has no line by which a server loses its disk, no restart is doubtful
@@ -43,6 +47,11 @@ pub record OutsideIsSafe (e : Estate AnyNode) : Type 0 where
   -- block by block, the calls on blocks are in the order of their acts, each between its Begin and its answer, one legal history of versions: up to the first
   -- doubtful restart; what a crash takes back was neither synced nor read elsewhere
   pub linearizable : IsLinearizable e
+  -- and what a call writes over a version that it named, it writes over just that, so that no update of another is lost: up to there
+  pub updates : NoUpdateIsLost e
+  -- so where all items are calls on blocks, and what is answered is answered as a call is that is done, the answers are those of one machine with one table of
+  -- blocks, which makes the calls in the order in which they are answered; and where that is the order of the lines, the text is the one machine's
+  pub as_one_machine : CallsAsOneMachine e
   -- each item is answered at most once, by its own node, after its Begin: so the text shows for an item its one answer, and as open are counted those that no
   -- act answers
   pub answered_once : ItemsAnsweredOnce e
@@ -56,6 +65,12 @@ pub record OutsideIsSafe (e : Estate AnyNode) : Type 0 where
   pub answers_fit : AnswersFit e
   -- in each event each node serves on until a crash of it begins, and what is due as an item begins is answered in that event
   pub dues_answered : AnswersDue e
+  -- a restart right behind a crash never finds its node up; and where items begin in turn, as by workers, none finds its node busy, nor down but behind a crash,
+  -- or behind a restart by which it lost a segment of its log
+  pub crashes_felt : CrashesAreFelt e
+  pub in_turn : BeginsInTurn e → AnswersInTurn e
+  -- what a rebuild answers was filled in and is gone is so, of all that there was to fill in; and a cleaning answers how many segments were dropped
+  pub numbers_true : NumbersAreTrue e
   -- a call on files answers what its plan says of the answers of its calls on blocks, each acted since it began
   pub files_planned : FileAnswersArePlanned e
   -- and a write its block's newest version, with its value: up to the first doubtful restart
@@ -75,5 +90,7 @@ pub record OutsideIsSafe (e : Estate AnyNode) : Type 0 where
   pub syncs_settle : SyncsSettle e
   -- only what is gone is refused as lost
   pub losses_earned : LossesEarned e
-  -- and where no line of the script has a server lose its disk, no restart is doubtful
+  -- and where no line of the script has a server lose its disk, no restart is doubtful, no item is answered that a segment is lost, and no client nor the cleaner
+  -- acts so
   pub undoubted : WithoutLossesNoDoubt e
+  pub unlost : WithoutLossesNothingIsLost e

@@ -87,6 +87,6 @@ module _ (setup : Setup) (works : NodeId → List Work) (k : ℕ) (s : Scene) (c
         (copy_drained setup works k s c d next.client.0 next.client.1 b asks unowned ((s.slot i).turn + 1) (omega arith) (omega arith) r.asked r.asks_few r.blocks r.cached r.copy
         r.last_is others_now r.is_copy scene_read clients_now client_now slots_now slot_now (λ v. refl))
         (ap (λ (x : ClientPart). x.begun) client_now) (λ e differs. ap (λ (x : ClientPart). x.begun) (clients_now e differs))
-        (record { answer = Got entry.ver r.value; before = acts.Read c b entry.ver r.value ∷ []; after = []; are = refl; none_before = refl; none_after = refl })
+        (record { answer = Got entry.ver r.value; of_call = tt; before = acts.Read c b entry.ver r.value ∷ []; after = []; are = refl; none_before = refl; none_after = refl })
         (copy_named setup works k s c d next.client.0 next.client.1 b asks unowned ((s.slot i).turn + 1) (omega arith) (omega arith) r.asked r.asks_few r.blocks r.cached r.copy
         r.last_is others_now r.is_copy scene_read clients_now client_now slots_now slot_now (λ v. refl) next.next)

@@ -381,6 +381,7 @@ module _ (setup : Setup) (works : NodeId → List Work) (k : ℕ) (s : Scene) (t
           begun = ap (λ (x : ClientPart). x.begun) client_now;
           others = λ o differs. ap (λ (x : ClientPart). x.begun) (clients_now o differs);
           answer = Got entry.ver r.value;
+          of_call = tt;
           before = acts.Read c b entry.ver r.value ∷ [];
           after = [];
           acted =

@@ -256,7 +256,7 @@ module _ (setup : Setup) (works : NodeId → List Work) (k : ℕ) (s : Scene) (t
         }))
         (ap (λ t. (cond t q (s.client c)).begun) (same_test c))
         (λ e differs. ap (λ t. (cond t q (s.client e)).begun) (other_test e c differs))
-        (record { answer = Version ((held_of second.blocks b).ver + 1); before = acts.Wrote c b value ∷ []; after = []; are = refl; none_before = refl; none_after = refl })
+        (record { answer = Version ((held_of second.blocks b).ver + 1); of_call = tt; before = acts.Wrote c b value ∷ []; after = []; are = refl; none_before = refl; none_after = refl })
         (own.believed_then setup works k s c d managers b value few next range asks nobody)
 
   -- ---- where 24 do
@@ -307,6 +307,7 @@ module _ (setup : Setup) (works : NodeId → List Work) (k : ℕ) (s : Scene) (t
         (λ e differs. ap (λ t. (cond t (tailing.q setup works k c m q can ok few_more least most fed linked acked ready) (s.client e)).begun) (other_test e c differs))
         (record {
           answer = Version ((held_of second.blocks b).ver + 1);
+          of_call = tt;
           before = acts.Wrote c b value ∷ [];
           after = filed ∷ [];
           are = ap (λ xs. (xs ++ []) ++ filed ∷ []) (acts_so setup works c second b value item);

@@ -36,6 +36,7 @@ answered_up setup works k s t c item u end a = record {
   begun = a.begun;
   others = a.others;
   answer = a.answer;
+  of_call = a.of_call;
   before = a.before;
   after = a.after;
   acted = a.acted;
@@ -244,6 +245,7 @@ module _ (setup : Setup) (works : NodeId → List Work) (k : ℕ) (s m r h : Sce
         begun = a.begun;
         others = λ d differs. a.others d differs ∙ begun d;
         answer = a.answer;
+        of_call = a.of_call;
         before = done ++ a.before;
         after = a.after;
         acted =

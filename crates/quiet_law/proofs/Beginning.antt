@@ -4,6 +4,7 @@ use Rattle.client_node.specs.Phases.{client_step}
 use Rattle.core_world.specs.AnyNode.{any_step, as_any}
 use Rattle.core_world.specs.declared.any_node.AnyNode.{AnyNode}
 use Rattle.core_world.specs.declared.any_node.AnyNode.TheVariants as any
+use Rattle.headline.specs.ItemActs.{IsOfCall}
 use Rattle.play.specs.Plays.{answers}
 use Rattle.quiet_flow.specs.Flow.{Done, Drains, Stage, begins, one_more, stepped, turned, unclocked}
 use Rattle.version_model.specs.declared.act.Act.{Act}
@@ -26,6 +27,7 @@ use Rattle.quiet_nodes.proofs.Staging.{client_frame, client_put, happens_as, pla
 -- what is acted from the begin of an item on: one answer, that of the item
 pub record AnswersIt (c item : ℕ) (all : List Act) : Type 0 where
   pub answer : Answer
+  pub of_call : IsOfCall answer
   pub before : List Act
   pub after : List Act
   pub are : all ≡ before ++ acts.Answered (Client c) item answer ∷ after
@@ -85,6 +87,7 @@ module _ (setup : Setup) (works : NodeId → List Work) (k : ℕ) (s u : Scene) 
       begun = begun;
       others = others;
       answer = one.answer;
+      of_call = one.of_call;
       before = one.before;
       after = one.after;
       acted = then_.is_after.acted ∙ append_assoc t.acts first done ∙ ap (λ xs. t.acts ++ xs) one.are;

@@ -5,6 +5,7 @@ use Rattle.client_node.specs.Phases.{client_step}
 use Rattle.core_world.specs.AnyNode.{any_step, as_any}
 use Rattle.core_world.specs.declared.any_node.AnyNode.{AnyNode}
 use Rattle.core_world.specs.declared.any_node.AnyNode.TheVariants as any
+use Rattle.headline.specs.ItemActs.{IsOfCall}
 use Rattle.play.specs.Plays.{answers}
 use Rattle.quiet_flow.proofs.Flowing.{drains_done}
 use Rattle.quiet_flow.specs.Flow.{Done, Drains, Stage, begins, one_more, stepped, turned}
@@ -37,7 +38,7 @@ module _ (setup : Setup) (works : NodeId → List Work) (k : ℕ) (s : Scene) (t
   module _ (q : ClientPart) (first : List Act) (item : ℕ) (a : Answer)
       (is : client_step (client_at setup works c (s.client c)) Begin
       ≡ record { node = client_at setup works c q; packets = []; acts = first ++ acts.Answered (Client c) item a ∷ [] })
-      (one : answers (first ++ acts.Answered (Client c) item a ∷ []) ≡ 1) (none : answers first ≡ 0) (begun : q.begun ≡ item)
+      (of_call : IsOfCall a) (one : answers (first ++ acts.Answered (Client c) item a ∷ []) ≡ 1) (none : answers first ≡ 0) (begun : q.begun ≡ item)
       (idle : IsIdle (suc k) q) (fed : q.fed ≡ q.end.seq) (same_end : q.end ≡ (s.client c).end) (square : (i : ℕ) → i < 8 → AreSquare setup works c i q (s.slot i)) where
     abbrev then_ : Scene
     then_ = with_client s c q
@@ -82,6 +83,7 @@ module _ (setup : Setup) (works : NodeId → List Work) (k : ℕ) (s : Scene) (t
         begun = put_begun ∙ begun;
         others = put_each (λ e (p : ClientPart). (e ≡ c → ⊥) → p.begun ≡ (s.client e).begun) s.client c q (λ differs. absurd (differs refl)) (λ e differs. refl);
         answer = a;
+        of_call = of_call;
         before = first;
         after = [];
         acted = refl;
@@ -138,7 +140,7 @@ module _ (setup : Setup) (works : NodeId → List Work) (k : ℕ) (s : Scene) (t
       ends_at_once q (acts.Read c b (held_of p.blocks b).ver (value_of (held_of p.blocks b)) ∷ []) (p.begun + 1)
       (Got (held_of p.blocks b).ver (value_of (held_of p.blocks b)))
       (get_here setup works c p b (idle_room setup works c k p few p_idle) (within (work.Bget c b) next few) (small (work.Bget c b) next few) next.next p_idle.item held)
-      refl refl refl
+      tt refl refl refl
       (like_idle q)
       (d.fed c least most)
       refl
@@ -150,7 +152,7 @@ module _ (setup : Setup) (works : NodeId → List Work) (k : ℕ) (s : Scene) (t
       ends_at_once q (acts.Synced c ∷ []) (p.begun + 1) Finished
       (sync_here setup works c p (idle_room setup works c k p few p_idle) (within (work.Sync c) next few) (small (work.Sync c) next few) next.next p_idle.item
       p_idle.flight none)
-      refl refl refl
+      tt refl refl refl
       (like_idle q)
       (d.fed c least most)
       refl

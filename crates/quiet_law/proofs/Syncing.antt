@@ -205,6 +205,7 @@ module _ (setup : Setup) (works : NodeId → List Work) (k : ℕ) (s : Scene) (t
       (acts_of (Client c) (stores setup works c p ++ []) ++ (writing.done_by setup works (suc k) c s syncs can ok few_more least most fed linked acked ready after ++ []))
   one = record {
     answer = Finished;
+    of_call = tt;
     before = filed ∷ acts.Synced c ∷ [];
     after = [];
     are =

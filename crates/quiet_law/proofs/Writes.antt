@@ -162,7 +162,7 @@ module _ (setup : Setup) (works : NodeId → List Work) (k : ℕ) (s : Scene) (t
   puts_here not_full =
       ends_at_once setup works k s t c d stands least most w (acts.Wrote c b value ∷ []) item (Version (h.ver + 1))
       (put_here setup works c p b value (idle_room setup works c k p few idle) left small next.next idle.item may fits not_full)
-      refl refl refl
+      tt refl refl refl
       (record {
         call = refl;
         item = refl;
@@ -255,6 +255,7 @@ module _ (setup : Setup) (works : NodeId → List Work) (k : ℕ) (s : Scene) (t
       (λ e differs. ap (λ t. (cond t (tailing.q setup works k c s w can ok few_more least most fed linked acked ready) (s.client e)).begun) (other_test e c differs))
       (record {
         answer = Version (h.ver + 1);
+        of_call = tt;
         before = acts.Wrote c b value ∷ [];
         after = tailing.filed setup works k c s w can ok few_more least most fed linked acked ready ∷ [];
         are = ap (λ xs. xs ++ tailing.filed setup works k c s w can ok few_more least most fed linked acked ready ∷ []) (acts_so setup works c mid_part b value item);

@@ -5,6 +5,7 @@ use Rattle.core_world.specs.declared.any_node.AnyNode.{AnyNode}
 use Rattle.delta_index.specs.Index.{entry_of}
 use Rattle.group_map.specs.Groups.{group_of}
 use Rattle.group_map.specs.declared.group.Group.{Group}
+use Rattle.headline.specs.ItemActs.{IsOfCall}
 use Rattle.log_flight.specs.Flights.{group_for}
 use Rattle.play.specs.Plays.{answers}
 use Rattle.slot_beliefs.specs.Beliefs.{others, share_of}
@@ -56,8 +57,9 @@ module _ (setup : Setup) (works : NodeId → List Work) where
     -- the item is begun, and no other
     pub begun : (scene.client c).begun ≡ item
     pub others : (d : ℕ) → (d ≡ c → ⊥) → (scene.client d).begun ≡ (s.client d).begun
-    -- what is acted has one answer, that of the item
+    -- what is acted has one answer, that of the item, as a call is answered that is done
     pub answer : Answer
+    pub of_call : IsOfCall answer
     pub before : List Act
     pub after : List Act
     pub acted : end.acts ≡ t.acts ++ (before ++ acts.Answered (Client c) item answer ∷ after)

@@ -1,6 +1,6 @@
 -- Line by line from one drained state to the next, in each of which every client asks for its call alone: what a line leads to by the law of lines is what the induction
 -- over the script asks of it.
-use Rattle.std.proofs.Common.{true≢false, ◌≡◌, ◌≤◌, ◌⊎◌, inl, inr, ℕ, suc, ◌+◌, Bool, true, false, cond, List, [], ◌∷◌, ◌++◌, length, length-append, Option, Some, slice_get, refl, sym, ap, subst, ◌∙◌, arith}
+use Rattle.std.proofs.Common.{true≢false, ◌≡◌, ◌≤◌, ◌⊎◌, inl, inr, ℕ, suc, ◌+◌, Bool, true, false, cond, List, [], ◌∷◌, ◌++◌, length, length-append, Some, slice_get, refl, sym, ap, subst, ◌∙◌, arith}
 use Rattle.std.specs.List.{list_all}
 use Rattle.std.proofs.lemmas.Bool.{and_parts}
 use Rattle.std.proofs.lemmas.Bool.Decides.{nat_tests}
@@ -12,10 +12,8 @@ use Rattle.core_world.specs.declared.any_node.AnyNode.{AnyNode}
 use Rattle.script_text.specs.declared.script.Line.{Line}
 use Rattle.script_text.specs.declared.script.Script.{Script}
 use Rattle.version_model.specs.declared.work.Work.{Work}
-use Rattle.version_model.specs.declared.work.Work.TheVariants as works
-use Rattle.world_base.specs.Items.{actor_of, is_for, is_for_actor, items_of, works_of}
+use Rattle.world_base.specs.Items.{actor_of, is_for, items_of, works_of}
 use Rattle.xfs_base.proofs.NodeOrder.{same_node_itself}
-use Rattle.xfs_base.specs.declared.block.BlockId.{BlockId}
 use Rattle.xfs_base.specs.declared.node.NodeId.{NodeId}
 use Rattle.xfs_base.specs.declared.node.NodeId.TheVariants.{Client}
 use Rattle.xfs_base.specs.Limits.{max_lines}
@@ -28,7 +26,8 @@ use Rattle.quiet_law.specs.Drained.{Drained}
 use Rattle.quiet_law.specs.Lines.{Ends, EndsAfterRound, IsNext, Stands}
 use Rattle.quiet_nodes.proofs.Blind.{any_blind}
 use Rattle.quiet_nodes.specs.Scene.{Scene}
-use Rattle.quiet_script.proofs.Answered.{items_counted, items_more}
+use Rattle.quiet_script.proofs.Answered.{item_there, items_counted, items_more, items_split}
+use Rattle.quiet_script.proofs.QuietWorks.{each_quiet}
 use Rattle.quiet_script.proofs.Induction.{script_answers}
 use Rattle.quiet_script.specs.Lines.{EndsLater, EndsSoon, LeadsOn}
 use Rattle.quiet_script.specs.Quiet.{IsOrderly, is_client, is_in_range}
@@ -46,31 +45,6 @@ pub of_line : (p : Line → Bool) (played rest : List Line) (line : Line) → li
 of_line p played rest line all =
     let both = and_parts (list_all p played) (list_all p (line ∷ rest)) (sym (list_all-append p played (line ∷ rest)) ∙ all) in
     (and_parts (p line) (list_all p rest) both.1).0
-
--- what holds of each put, get and sync holds of each quiet work
-pub each_quiet : (P : Work → Type 0) → ((c : ℕ) (b : BlockId) (value : Option (List ℕ)) → P (works.Bput c b value)) → ((c : ℕ) (b : BlockId) → P (works.Bget c b))
-    → ((c : ℕ) → P (works.Sync c)) → (w : Work) → is_quiet w ≡ true → P w
-each_quiet P puts gets syncs (works.Bput c b value) q = puts c b value
-each_quiet P puts gets syncs (works.Bget c b) q = gets c b
-each_quiet P puts gets syncs (works.Sync c) q = syncs c
-each_quiet P puts gets syncs (works.File c call) q = absurd (true≢false (sym q))
-each_quiet P puts gets syncs (works.Crash node) q = absurd (true≢false (sym q))
-each_quiet P puts gets syncs (works.Restart node) q = absurd (true≢false (sym q))
-each_quiet P puts gets syncs (works.Checkpoint j) q = absurd (true≢false (sym q))
-each_quiet P puts gets syncs (works.Lose v) q = absurd (true≢false (sym q))
-each_quiet P puts gets syncs (works.Rebuild v) q = absurd (true≢false (sym q))
-each_quiet P puts gets syncs (works.Move slot j) q = absurd (true≢false (sym q))
-each_quiet P puts gets syncs (works.Clean count) q = absurd (true≢false (sym q))
-each_quiet P puts gets syncs (works.NetLose n) q = absurd (true≢false (sym q))
-each_quiet P puts gets syncs (works.NetAgain n) q = absurd (true≢false (sym q))
-each_quiet P puts gets syncs (works.NetMix n) q = absurd (true≢false (sym q))
-each_quiet P puts gets syncs works.NetHold q = absurd (true≢false (sym q))
-each_quiet P puts gets syncs works.NetGo q = absurd (true≢false (sym q))
-each_quiet P puts gets syncs (works.NetStep n) q = absurd (true≢false (sym q))
-each_quiet P puts gets syncs (works.BoardStop n) q = absurd (true≢false (sym q))
-each_quiet P puts gets syncs (works.BoardStart n) q = absurd (true≢false (sym q))
-each_quiet P puts gets syncs (works.ServerStop v passes) q = absurd (true≢false (sym q))
-each_quiet P puts gets syncs (works.ServerStart v) q = absurd (true≢false (sym q))
 
 module _ (script : Script) (orderly : IsOrderly script) (quiet : IsQuiet script) where
   abbrev its_works : NodeId → List Work
@@ -91,10 +65,6 @@ module _ (script : Script) (orderly : IsOrderly script) (quiet : IsQuiet script)
       let long = length-map script.lines (λ (line : Line). line.work) in
       let few = orderly.few in
       omega arith
-
-  get_at : (xs : List Work) (w : Work) (ys : List Work) → slice_get (xs ++ w ∷ ys) (length xs) ≡ Some w
-  get_at [] w ys = refl
-  get_at (x ∷ xs) w ys = get_at xs w ys
 
   module _ (played rest : List Line) (line : Line) (t : Stage AnyNode) (is : script.lines ≡ played ++ line ∷ rest) (b : Between played t) where
     two_each : (lines : List Line) → steps_of lines ≡ length lines + length lines
@@ -118,29 +88,17 @@ module _ (script : Script) (orderly : IsOrderly script) (quiet : IsQuiet script)
       its_number : (1 ≤ c) × (c ≤ script.setup.clients)
       its_number = (grind (arith, nat_tests), grind (arith, nat_tests))
 
-      its_own : is_for (Client c) line.work ≡ true
-      its_own = ap (is_for_actor (Client c)) actor ∙ same_node_itself (Client c)
-
-      items_split : its_works (Client c) ≡ items_of played (Client c) ++ line.work ∷ items_of rest (Client c)
-      items_split = ap (λ lines. items_of lines (Client c)) is ∙ filtered played
-        where
-          filtered : (lines : List Line) → items_of (lines ++ line ∷ rest) (Client c) ≡ items_of lines (Client c) ++ line.work ∷ items_of rest (Client c)
-          filtered [] = ap (λ own. cond own (line.work ∷ items_of rest (Client c)) (items_of rest (Client c))) its_own
-          filtered (l ∷ lines) =
-              elim (is_for (Client c) l.work) as (λ own. cond own (l.work ∷ items_of (lines ++ line ∷ rest) (Client c)) (items_of (lines ++ line ∷ rest) (Client c))
-              ≡ cond own (l.work ∷ items_of lines (Client c)) (items_of lines (Client c)) ++ line.work ∷ items_of rest (Client c)) [
-                | true ↦ ap (λ ws. l.work ∷ ws) (filtered lines)
-                | false ↦ filtered lines
-              ]
+      split : its_works (Client c) ≡ items_of played (Client c) ++ line.work ∷ items_of rest (Client c)
+      split = ap (λ lines. items_of lines (Client c)) is ∙ items_split played rest line (Client c) actor
 
       is_next : IsNext script.setup its_works b.scene c line.work
       is_next = record {
         client = its_number;
         few = few_items c;
         next =
-            ap (λ ws. slice_get ws (b.scene.client c).begun) items_split
+            ap (λ ws. slice_get ws (b.scene.client c).begun) split
             ∙ ap (slice_get (items_of played (Client c) ++ line.work ∷ items_of rest (Client c))) (b.begun c)
-            ∙ get_at (items_of played (Client c)) line.work (items_of rest (Client c));
+            ∙ item_there (items_of played (Client c)) line.work (items_of rest (Client c));
       }
 
       -- the item is the next one of the client, by its number
@@ -200,7 +158,7 @@ module _ (script : Script) (orderly : IsOrderly script) (quiet : IsQuiet script)
             few = e.few;
             drains = e.drains;
             settled = a.stands.settled;
-            answers_it = record { answer = a.answer; before = a.before; after = a.after; acted = a.acted; none_before = a.none_before; none_after = a.none_after };
+            answers_it = record { answer = a.answer; of_call = a.of_call; before = a.before; after = a.after; acted = a.acted; none_before = a.none_before; none_after = a.none_after };
             so_then = between_then e.scene e.end a.stands a.drained a.begun a.others
                 (asks_then script.setup its_works (suc (steps_of played)) b.scene t c item b.stands its_number b.asks most_deliveries e);
           })
@@ -220,7 +178,7 @@ module _ (script : Script) (orderly : IsOrderly script) (quiet : IsQuiet script)
             second_few = e.second_few;
             second_drains = e.second_drains;
             settled = a.stands.settled;
-            answers_it = record { answer = a.answer; before = a.before; after = a.after; acted = a.acted; none_before = a.none_before; none_after = a.none_after };
+            answers_it = record { answer = a.answer; of_call = a.of_call; before = a.before; after = a.after; acted = a.acted; none_before = a.none_before; none_after = a.none_after };
             so_then = between_then e.scene e.end a.stands a.drained a.begun a.others
                 (asks_later script.setup its_works (suc (steps_of played)) b.scene t c item b.stands its_number b.asks 63 65 e);
           })

@@ -27,8 +27,9 @@ use Rattle.quiet_nodes.proofs.Tests.{same_test}
 use Rattle.quiet_nodes.specs.Scene.{Scene}
 use Rattle.quiet_gives.proofs.PutsFromDirty.{puts_from_dirty}
 use Rattle.quiet_run.proofs.Few.{ends_later_more, fetching_few, sealing_few, tail_few}
-use Rattle.quiet_run.proofs.Leading.{each_quiet, scripts_are_answered}
+use Rattle.quiet_run.proofs.Leading.{scripts_are_answered}
 use Rattle.quiet_run.specs.Runs.{EachLineLeadsOn, QuietScriptsAreAnswered}
+use Rattle.quiet_script.proofs.QuietWorks.{each_quiet}
 use Rattle.quiet_script.specs.Quiet.{is_in_range}
 use Rattle.headline.specs.Bounds.{is_quiet, most_deliveries}
 use Rattle.slot_beliefs.specs.Beliefs.{others}

@@ -28,7 +28,7 @@ EachLineLeadsOn =
 
 -- the run of each quiet script is answered within the bounds
 abbrev pub QuietScriptsAreAnswered : Type 0
-QuietScriptsAreAnswered = (script : Script) → IsOrderly script → IsQuiet script → AnswersWithinBounds (estate_of any_step any_start script)
+QuietScriptsAreAnswered = (script : Script) → IsOrderly script → IsQuiet script → AnswersWithinBounds any_step any_start (estate_of any_step any_start script)
 
 -- the one follows from the other
 abbrev pub LinesAnswerScripts : Type 0

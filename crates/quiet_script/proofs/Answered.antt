@@ -1,5 +1,5 @@
 -- Which items are answered: one line more answers the next item of its node, and no other.
-use Rattle.std.proofs.Common.{◌≡◌, ◌≤◌, ℕ, suc, ◌+◌, Bool, true, false, cond, ◌&&◌, ◌==◌, nat_le, List, [], ◌∷◌, ◌++◌, length, Some, refl, sym, ap, ◌∙◌, arith}
+use Rattle.std.proofs.Common.{◌≡◌, ◌≤◌, ℕ, suc, ◌+◌, Bool, true, false, cond, ◌&&◌, ◌==◌, nat_le, List, [], ◌∷◌, ◌++◌, length, Some, slice_get, refl, sym, ap, ◌∙◌, arith}
 use Rattle.std.specs.List.{count_by}
 use Rattle.std.proofs.lemmas.Bool.Decides.{nat_tests}
 use Rattle.std.proofs.lemmas.List.Sums.{length-filter, sum_by-le-sum_by}
@@ -8,8 +8,9 @@ use Rattle.script_text.specs.declared.script.Line.{Line}
 use Rattle.transcript.specs.Replies as replies
 use Rattle.version_model.specs.declared.act.Act.{Act}
 use Rattle.version_model.specs.declared.act.Act.TheVariants as acts
+use Rattle.version_model.specs.declared.work.Work.{Work}
 use Rattle.world_base.specs.Items.{actor_of, is_for, is_for_actor, items_of, works_of}
-use Rattle.xfs_base.proofs.NodeOrder.{same_node_is}
+use Rattle.xfs_base.proofs.NodeOrder.{same_node_is, same_node_itself}
 use Rattle.xfs_base.specs.declared.node.NodeId.{NodeId}
 use Rattle.xfs_base.specs.Nodes.{same_node}
 use Rattle.quiet_flow.proofs.Counts.{count_both, count_hit, count_next}
@@ -93,6 +94,22 @@ items_more played line node other actor =
     let one = items_one other line in
     let is : one_if (is_for other line.work) ≡ one_if (same_node node other) = ap (λ a. one_if (is_for_actor other a)) actor in
     omega arith
+
+-- the item of a line stands behind those of the lines before
+pub item_there : (xs : List Work) (w : Work) (ys : List Work) → slice_get (xs ++ w ∷ ys) (length xs) ≡ Some w
+item_there [] w ys = refl
+item_there (x ∷ xs) w ys = item_there xs w ys
+
+pub items_split : (played rest : List Line) (line : Line) (node : NodeId) → actor_of line.work ≡ Some node
+    → items_of (played ++ line ∷ rest) node ≡ items_of played node ++ line.work ∷ items_of rest node
+items_split [] rest line node actor =
+    ap (λ own. cond own (line.work ∷ items_of rest node) (items_of rest node)) (ap (is_for_actor node) actor ∙ same_node_itself node)
+items_split (l ∷ played) rest line node actor =
+    elim (is_for node l.work) as (λ own. cond own (l.work ∷ items_of (played ++ line ∷ rest) node) (items_of (played ++ line ∷ rest) node)
+    ≡ cond own (l.work ∷ items_of played node) (items_of played node) ++ line.work ∷ items_of rest node) [
+      | true ↦ ap (λ ws. l.work ∷ ws) (items_split played rest line node actor)
+      | false ↦ items_split played rest line node actor
+    ]
 
 -- ---- each once
 

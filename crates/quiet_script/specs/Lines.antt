@@ -16,10 +16,12 @@ use Rattle.xfs_base.specs.declared.node.NodeId.{NodeId}
 use Rattle.xfs_base.specs.declared.setup.Setup.{Setup}
 use Rattle.quiet_flow.specs.Flow.{Drains, Stage, begins, rounds}
 use Rattle.headline.specs.Bounds.{most_deliveries}
+use Rattle.headline.specs.ItemActs.{IsOfCall}
 
--- what is acted beyond this has one answer, that of this item of this node
+-- what is acted beyond this has one answer, that of this item of this node, as a call is answered that is done
 pub record AnswersOne (done more : List Act) (node : NodeId) (item : ℕ) : Type 0 where
   pub answer : Answer
+  pub of_call : IsOfCall answer
   pub before : List Act
   pub after : List Act
   pub acted : more ≡ done ++ (before ++ acts.Answered node item answer ∷ after)

@@ -3,7 +3,7 @@ mod Foundations
 pub mod Trails
 pub mod Calling
 pub mod Clients
-mod Writing
+pub mod Writing
 mod Versions
 mod Newest
 mod Incarnations

@@ -1,4 +1,6 @@
-mod Standing
-mod Turns
-mod Dues
-mod Runs
+pub mod Standing
+pub mod Turns
+pub mod Dues
+pub mod Waiting
+mod Giving
+pub mod Runs

@@ -1,5 +1,6 @@
 mod Filing
 mod Moving
+mod Holding
 mod Running
 pub mod Clients
 pub mod Single

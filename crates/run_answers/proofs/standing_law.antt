@@ -1,10 +1,10 @@
 mod Meeting
 mod Calls
 mod Allowed
-mod Clients
-mod Managers
-mod Servers
+pub mod Clients
+pub mod Managers
+pub mod Servers
 mod Registries
-mod Cleaners
+pub mod Cleaners
 pub mod Moments
 pub mod Runs

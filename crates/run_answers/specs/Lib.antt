@@ -1,6 +1,10 @@
 pub mod act_law
 pub mod due_law
 pub mod once_law
+pub mod reply_law
 pub mod standing_law
 pub mod linear_law
 pub mod own_law
+pub mod turn_law
+pub mod wait_law
+pub mod number_law

@@ -12,3 +12,4 @@ pub mod lost_law
 pub mod answer_law
 pub mod reader_law
 pub mod earned_law
+pub mod unlost_law

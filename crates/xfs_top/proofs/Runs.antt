@@ -12,11 +12,12 @@ use Rattle.top_call.specs.declared.command.Command.TheVariants.{Audit, Big, Boar
 use Rattle.top_call.specs.Claim.{IsLiveRun, IsPlayedWithBoards, IsRunBy}
 use Rattle.world_base.specs.declared.estate.Estate.{Estate}
 use Rattle.world_base.specs.Runs.{IsRun, IsWholeRun}
+use Rattle.xfs_top.proofs.InTurn.{begins_in_turn}
 use Rattle.xfs_top.specs.Headline.{BoardHeadline, Headline, HeadlineOf, LiveHeadline}
 use Rattle.headline.specs.Safe.{IsSafe}
 
 -- the registry is among the nodes
-has_registry : HasRegistry any_step any_start
+pub has_registry : HasRegistry any_step any_start
 has_registry = record { of = Registry; starts = λ setup items. refl; steps = λ node what. refl }
 
 module _ (safe : (e : Estate AnyNode) → IsSetup e.script.setup → IsRun any_step any_start e.script e.events e.world → IsSafe e) where
@@ -30,6 +31,7 @@ module _ (safe : (e : Estate AnyNode) → IsSetup e.script.setup → IsRun any_s
         let ended : IsFull any_step any_start e = subst (λ (b : Bool). EndsSo any_step any_start b e) none live.ends in
         record { setup = live.setup; one_run = live.one_run; complete = ended.complete };
     safe = safe e live.setup live.one_run;
+    in_turn = (safe e live.setup live.one_run).outside.in_turn (begins_in_turn e live);
   }
 
   with_boards : (e : Estate AnyNode) → IsPlayedWithBoards any_step any_start e → BoardHeadline e

@@ -5,6 +5,7 @@ use Rattle.board_play.specs.Played.{IsBoardPlayed}
 use Rattle.board_play.specs.Plays.{estate_of as board_estate_of}
 use Rattle.core_world.specs.AnyNode.{any_start, any_step}
 use Rattle.core_world.specs.declared.any_node.AnyNode.{AnyNode}
+use Rattle.headline.specs.Turns.{AnswersInTurn}
 use Rattle.std.specs.Prelude.{◌≡◌, true, Option, Some}
 use Rattle.top_call.specs.Claim.{is_full}
 use Rattle.top_call.specs.declared.command.Command.{Command}
@@ -23,8 +24,9 @@ pub record Headline (e : Estate AnyNode) : Type 0 where
 pub record LiveHeadline (e : Estate AnyNode) : Type 0 where
   -- where no item of it is open, its events are one run of the xFS nodes, of its script: each node begins its items in order, each once, and none is left out
   pub whole : is_full e ≡ true → IsWholeRun any_step any_start e
-  -- and whether it was given up or not, all that is said of a run is so of it
+  -- and whether it was given up or not, all that is said of a run is so of it, and of one in which items begin in turn
   pub safe : IsSafe e
+  pub in_turn : AnswersInTurn e
 
 -- Of a run that was played with three boards in the registry's place, whichever of them stop:
 pub record BoardHeadline (e : Estate AnyNode) : Type 0 where

@@ -1,3 +1,4 @@
 pub mod Bounds
 pub mod Headline
+pub mod OneMachine
 pub mod Replies

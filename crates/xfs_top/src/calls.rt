@@ -1,5 +1,6 @@
 //! The two calls of the program, and how the process ends.
 ghost use Rattle.std.specs.Prelude.{◌≡◌, false, IfSome, map, string_bytes};
+ghost use Rattle.std.specs.List.{AllByRecursion};
 ghost use Rattle.core_world.specs.AnyNode.{any_step, any_start};
 ghost use Rattle.core_world.specs.declared.any_node.AnyNode.{AnyNode as Node};
 ghost use Rattle.top_call.specs.Claim.{writing, reading, Claim};
@@ -12,10 +13,14 @@ ghost use Rattle.world_base.specs.declared.estate.Estate.{Estate};
 ghost use Rattle.world_base.specs.Runs.{IsRun};
 ghost use Rattle.xfs_top.specs.Bounds.{BoundsOf};
 ghost use Rattle.xfs_top.specs.Headline.{HeadlineOf};
+ghost use Rattle.xfs_top.specs.OneMachine.{OneMachineOf};
+ghost use Rattle.headline.specs.Audits.{IsAuditedLegal};
 ghost use Rattle.headline.specs.Safe.{IsSafe};
+ghost use Rattle.run_audits.specs.Ranges.{FitsAct};
 ghost use Rattle.xfs_top.specs.Replies.{AreAnswers};
 
 use core_world::AnyNode;
+use disk_play::unstopped::unstopped_scripts_are_played;
 use quiet_run::all_quiet_scripts_are_answered;
 use quiet_script::accepted_scripts_are_orderly;
 use run_answers::act_law::{
@@ -23,9 +28,15 @@ use run_answers::act_law::{
 };
 use run_answers::due_law::runs_answer_what_is_due;
 use run_answers::linear_law::runs_are_linearizable;
+use run_answers::number_law::{cleanings_are_true, rebuilds_are_true};
 use run_answers::once_law::items_are_answered_once;
 use run_answers::own_law::clients_act_for_their_items;
+use run_answers::reply_law::questions_are_answered;
 use run_answers::standing_law::answers_fit_where_a_node_stands;
+use run_answers::turn_law::{each_crash_is_felt, runs_in_turn_are_never_busy};
+use run_answers::wait_law::{open_calls_have_asked, wants_are_sent_again};
+use run_audits::audit_law::runs_are_audited_legal;
+use run_audits::ranges::prove_acts_fit;
 use run_drops::drop_law::what_is_deleted_was_dropped;
 use run_holdings::belief_law::managers_believe_their_clients;
 use run_holdings::boot_law::the_cleaner_files_one_segment_of_its_boot;
@@ -40,6 +51,8 @@ use run_laws::world_logs::runs_keep_logs;
 use run_laws::world_reads::every_runs_acts_are_legal;
 use run_losses::answer_law::lost_answers_are_said;
 use run_losses::earned_law::each_lost_act_is_earned;
+use run_losses::unlost_law::nothing_is_lost_without_losses;
+use run_text::runs_are_as_one_machine;
 use std::alloc::Global;
 use std::mem;
 use std::sync::Wait;
@@ -69,10 +82,28 @@ fn every_run_is_safe()
     clients_act_for_their_items();
     answers_fit_where_a_node_stands();
     runs_answer_what_is_due();
+    rebuilds_are_true();
+    cleanings_are_true();
     file_answers_are_planned();
     answered_versions_are_newest();
     runs_are_linearizable();
+    runs_are_as_one_machine();
     without_losses_no_restart_is_doubtful();
+    nothing_is_lost_without_losses();
+    each_crash_is_felt();
+    runs_in_turn_are_never_busy();
+    questions_are_answered();
+    open_calls_have_asked();
+    wants_are_sent_again();
+}
+
+/// The acts of the run, where there is one, are in the ranges of their types. It does nothing when it runs, but for a loop over them.
+fn prove_in_range(outcome: &Outcome<AnyNode>)
+    ensures { IfSome outcome.now.estate (λ e. AllByRecursion FitsAct e.world.acts) }
+{
+    if let Some(estate) = &outcome.estate {
+        prove_acts_fit(estate.world.acts.as_slice());
+    }
 }
 
 /// The program for all words but those that start threads, which are `live W` and `mount W`. `docs/LANGUAGE.md` lists the statuses,
@@ -87,8 +118,13 @@ fn every_run_is_safe()
 ///   first doubtful restart each act Read is of its block's newest version, and no fall goes below what was synced or
 ///   read elsewhere. Of `boards` it is said of the run with one registry that the run with three boards stands for,
 ///   whichever of them stopped.
+/// - `audited`: where the script has the line `acts`, what `audit` says of the text of the run is that it is legal: of its front with the acts up to a moment, up
+///   to the first doubtful restart, and of all of it, where none was, or where no line has a server lose its disk (`specs/Audits.antt` of `headline`). Of `big`,
+///   which writes no text, it is said of the text that `run` would write.
 /// - `bounds`: where the script has only the lines `bput`, `bget` and `sync`, each item was answered, once, within 128
-///   deliveries and one tick of each node (`specs/Bounds.antt`). Of `boards` and `disks` nothing is said.
+///   deliveries and one tick of each node, in the order of the lines (`specs/Bounds.antt`). Of `boards` nothing is said.
+/// - `one_machine`: of such a script the text is what one machine with one table of blocks answers that makes the call of each line
+///   before it looks at the next (`specs/Machine.antt` of `one_machine`).
 /// - `disks`: by `disks` the run is the one that its script determines with servers that stop, and so is all that the disk of
 ///   each server did, and its bytes: `open` of it, without fault, gives what the script says is kept on it, with the shelf of
 ///   that server in the world in which the run ends. By other words there are none.
@@ -103,14 +139,20 @@ pub fn solo<S: Source, K: Sink>(
         (writing K.written K.faults sink.old sink.new) result }
     ensures untouched { reads (command_of (map string_bytes words.now)) ≡ false → source.new ≡ source.old }
     ensures headline { IfSome result.estate (HeadlineOf (command_of (map string_bytes words.now))) }
+    ensures audited { IfSome result.estate IsAuditedLegal }
     ensures bounds { IfSome result.estate (BoundsOf (command_of (map string_bytes words.now))) }
+    ensures one_machine { IfSome result.estate (OneMachineOf (command_of (map string_bytes words.now))) }
     ensures disks { DisksOf any_step any_start any_shelf (command_of (map string_bytes words.now)) result.estate result.disks }
     ensures no_replies { NoReplies result.calls result.replies }
 {
     every_run_is_safe();
     accepted_scripts_are_orderly();
     all_quiet_scripts_are_answered();
-    answer(alloc, words, source, sink)
+    unstopped_scripts_are_played::<AnyNode>();
+    runs_are_audited_legal();
+    let outcome = answer(alloc, words, source, sink);
+    prove_in_range(&outcome);
+    outcome
 }
 
 /// The program, for all words. What `live W` does, W workers do, in threads of the runtime, which the gate watches; by
@@ -118,6 +160,8 @@ pub fn solo<S: Source, K: Sink>(
 /// nodes, and it promises what `solo` does; that it returns is not claimed. All other words `solo` answers.
 ///
 /// - `bounds`: of the answers of a quiet script, as `solo` says it; of `live W` and `mount W` nothing is said.
+/// - `one_machine`: that the text of such a script is the one machine's, as `solo` says it; of `live W` and `mount W` nothing is said
+///   but what `headline` says of each run.
 /// - `mounts`: by `mount W` for each client what its application called are its items, in their order, each once, and what
 ///   that was replied is what the client answered to them in the run, in that order, each once. By other words there are
 ///   neither.
@@ -134,7 +178,9 @@ pub fn xfs<R: Threads + Wait + Sync, S: Source, K: Sink, G: Gate>(
         (writing K.written K.faults sink.old sink.new) result }
     ensures untouched { reads (command_of (map string_bytes words.now)) ≡ false → source.new ≡ source.old }
     ensures headline { IfSome result.estate (HeadlineOf (command_of (map string_bytes words.now))) }
+    ensures audited { IfSome result.estate IsAuditedLegal }
     ensures bounds { IfSome result.estate (BoundsOf (command_of (map string_bytes words.now))) }
+    ensures one_machine { IfSome result.estate (OneMachineOf (command_of (map string_bytes words.now))) }
     ensures disks { DisksOf any_step any_start any_shelf (command_of (map string_bytes words.now)) result.estate result.disks }
     ensures mounts { MountsOf any_step any_start (command_of (map string_bytes words.now)) result.estate result.calls result.replies }
     ensures replies { IfSome result.estate (λ e. IfSome result.replies (AreAnswers e)) }
@@ -142,8 +188,14 @@ pub fn xfs<R: Threads + Wait + Sync, S: Source, K: Sink, G: Gate>(
     every_run_is_safe();
     accepted_scripts_are_orderly();
     all_quiet_scripts_are_answered();
+    unstopped_scripts_are_played::<AnyNode>();
+    runs_are_audited_legal();
     match threads_asked(words) {
-        Some(command) => answer_threads(rt, alloc, command, source, sink, gate),
+        Some(command) => {
+            let outcome = answer_threads(rt, alloc, command, source, sink, gate);
+            prove_in_range(&outcome);
+            outcome
+        }
         None => solo(alloc, words, source, sink),
     }
 }

@@ -86,7 +86,7 @@ none_settles [] all = refl
 none_settles (Send fragment member ∷ outs) all = none_settles outs all.1
 none_settles (Settled end rows ∷ outs) all = absurd all.0
 
-put_tokens : (s : Serving) (block : BlockId) (entry : Entry) (value : Option (List ℕ)) → (serving_write s (log_in.Put block entry value)).state.tokens ≡ s.tokens
+pub put_tokens : (s : Serving) (block : BlockId) (entry : Entry) (value : Option (List ℕ)) → (serving_write s (log_in.Put block entry value)).state.tokens ≡ s.tokens
 unfolding serving_write
 put_tokens s block entry value =
     let r : log.Done = on_put s.log block (record { entry = entry; value = value }) in
@@ -121,7 +121,7 @@ wrote_held s block value may =
 abbrev Puts : BlockId → Option (List ℕ) → Made → Type 0
 Puts block value m = (ver : ℕ) → m.answer ≡ Some (Written ver) → IsWritten m.done.state.tokens block value ver
 
-changes_put : (s : Serving) (block : BlockId) (value : Option (List ℕ)) → may_write (held_at s block) ≡ true → Puts block value (changes s block value)
+pub changes_put : (s : Serving) (block : BlockId) (value : Option (List ℕ)) → may_write (held_at s block) ≡ true → Puts block value (changes s block value)
 unfolding changes
 changes_put s block value may ver answers = record {
   held = ap (λ (h : Held). is_held h.mode) now ∙ own_is_held (held_at s block).mode (and_first _ _ (and_first _ _ may));

@@ -1,5 +1,7 @@
 -- What each kind of node answers in the event that begins an item.
-use Rattle.std.proofs.Common.{◌≡◌, ℕ, true, List, [], ◌∷◌, ◌++◌, Option, Some, None, is_some, refl, sym, ap, subst, ◌∙◌}
+use Rattle.std.proofs.Common.{◌≡◌, ◌≤◌, ℕ, ◌+◌, ◌-◌, ◌&&◌, min, arith, map, true, List, [], ◌∷◌, ◌++◌, Option, Some, None, is_some, refl, sym, ap, subst, ◌∙◌}
+use Rattle.std.proofs.lemmas.Bool.{leb-true}
+use Rattle.std.proofs.Math.Nat.{min-eq_left}
 use Rattle.cleaner_job.specs.declared.lasting.Lasting.{Lasting as CleanerLasting}
 use Rattle.cleaner_node.specs.CleanerEvents as cleaning
 use Rattle.cleaner_node.specs.declared.cleaner.Cleaner.{Cleaner}
@@ -52,16 +54,18 @@ use Rattle.version_model.specs.declared.work.Work.TheVariants as work
 use Rattle.wire_msg.specs.declared.body.Body.{Body}
 use Rattle.wire_msg.specs.declared.body.Body.TheVariants as body
 use Rattle.wire_msg.specs.declared.packet.Do.TheVariants.{Begin}
+use Rattle.wire_msg.specs.declared.registry.News.{News}
 use Rattle.wire_msg.specs.NodeStep.{NodeStep}
 use Rattle.world_base.specs.Items.{actor_of}
-use Rattle.xfs_base.proofs.Booleans.{by_test, contrary}
+use Rattle.xfs_base.proofs.Booleans.{and_first, by_test, contrary}
 use Rattle.xfs_base.specs.declared.node.NodeId.{NodeId}
 use Rattle.xfs_base.specs.declared.node.NodeId.TheVariants as nodes
+use Rattle.xfs_base.specs.Limits.{counter_room, u32_end}
 use Rattle.xfs_base.specs.Steps.{still}
 use Rattle.run_answers.proofs.due_law.Standing.{asked_begun}
 use Rattle.run_answers.proofs.once_law.Items.{begun_open}
 use Rattle.run_answers.specs.due_law.Dues.{EachItemIsDue}
-use Rattle.headline.specs.Dues.{BeginsWork, CrashIsDone, IsDue, LossIsDone, MoveIsDone, Refuses, Rests, client_fell, cut_open}
+use Rattle.headline.specs.Dues.{BeginsWork, CrashIsDone, IsDue, ItemsFit, LossIsDone, MoveIsDone, Refuses, client_fell, cut_open, told_maps}
 use Rattle.headline.specs.Items.{IsOpen, asked_at}
 
 -- ---- what is acted
@@ -86,6 +90,12 @@ cut_silent me (Some item) number = refl
 sends_silent : (me : NodeId) (to : List NodeId) (b : Body) (more : List Effect) → acts_of me (send_each to b ++ more) ≡ acts_of me more
 sends_silent me [] b more = refl
 sends_silent me (one ∷ to) b more = sends_silent me to b more
+
+-- and the registry tells them these maps, where nothing is sent behind
+sends_told : (news : News) (to : List NodeId) (more : List Effect) → packets_of nodes.Registry more ≡ []
+    → packets_of nodes.Registry (send_each to (body.MapNews news) ++ more) ≡ map (told_maps news) to
+sends_told news [] more none = none
+sends_told news (one ∷ to) more none = ap (λ packets. told_maps news one ∷ packets) (sends_told news to more none)
 
 -- the open item waits still, once the next has begun
 waits_still : (items : Items) (item : ℕ) → IsOpen items item → is_some (items_begin items).unanswered ≡ true
@@ -224,11 +234,11 @@ module _ (m : Manager) (number : ℕ) where
 
     manager_waiting : (hello : ℕ) (wanted : Work) → l.items.unanswered ≡ None → actor_of wanted ≡ Some (nodes.Manager l.number)
         → ManagerDue (manager.Waiting l hello) wanted (managers.waiting_wish l_begun hello number (managers.wish_at (Some wanted)))
-    manager_waiting hello (work.Crash node) rests own = λ _. (λ fallen. absurd cc, λ apart. manager_crashes (manager.Waiting l hello) refl)
-    manager_waiting hello (work.Restart node) rests own = λ _. (λ fallen. absurd cc, λ apart. record { acts = refl; packets = refl; stands = refl })
-    manager_waiting hello (work.Lose server) rests own = absurd cc
-    manager_waiting hello (work.Move slot k) rests own = absurd cc
-    manager_waiting hello _ rests own = (λ apart. absurd (apart refl), λ item serves waits. absurd (none_waits l.items.unanswered item rests waits))
+    manager_waiting hello (work.Crash node) fits own = λ _. (λ fallen. absurd cc, λ apart. manager_crashes (manager.Waiting l hello) refl)
+    manager_waiting hello (work.Restart node) fits own = λ _. (λ fallen. absurd cc, λ apart. record { acts = refl; packets = refl; stands = refl })
+    manager_waiting hello (work.Lose server) fits own = absurd cc
+    manager_waiting hello (work.Move slot k) fits own = absurd cc
+    manager_waiting hello _ fits own = (λ apart. absurd (apart refl), λ item serves waits. absurd (none_waits l.items.unanswered item fits waits))
 
   module _ (s : ManagerServing) where
     abbrev t_begun : ManagerServing
@@ -251,28 +261,28 @@ module _ (m : Manager) (number : ℕ) where
     manager_serving _ own = (λ apart. absurd (apart refl), λ item serves waits. manager_busy item waits)
 
   module _ (wanted : Work) where
-    manager_begins : (p : manager_phase.Phase) → Rests (manager_in p) → actor_of wanted ≡ Some (nodes.Manager (managers.lasting_of p).number)
+    manager_begins : (p : manager_phase.Phase) → ItemsFit (manager_in p) → actor_of wanted ≡ Some (nodes.Manager (managers.lasting_of p).number)
         → BeginsWork (manager_in p) Begin number (Some wanted) → ManagerDue p wanted (managers.on_begin p)
     unfolding managers.begin_down managers.begin_waiting managers.begin_serving
-    manager_begins (manager.Down l) rests own begins =
+    manager_begins (manager.Down l) fits own begins =
         subst (λ o. ManagerDue (manager.Down l) wanted (managers.down_item (l_begun l) o)) (sym begins.next)
         (subst (λ w. ManagerDue (manager.Down l) wanted (managers.down_wish (l_begun l) number (managers.wish_at w)))
         (asked_so l.items number (Some wanted) begins.asked) (manager_down l wanted own))
-    manager_begins (manager.Waiting l hello) rests own begins =
+    manager_begins (manager.Waiting l hello) fits own begins =
         subst (λ o. ManagerDue (manager.Waiting l hello) wanted (managers.waiting_item (l_begun l) hello o)) (sym begins.next)
         (subst (λ w. ManagerDue (manager.Waiting l hello) wanted (managers.waiting_wish (l_begun l) hello number (managers.wish_at w)))
-        (asked_so l.items number (Some wanted) begins.asked) (manager_waiting l hello wanted rests own))
-    manager_begins (manager.Serving s) rests own begins =
+        (asked_so l.items number (Some wanted) begins.asked) (manager_waiting l hello wanted fits own))
+    manager_begins (manager.Serving s) fits own begins =
         subst (λ o. ManagerDue (manager.Serving s) wanted (managers.serving_item (t_begun s) o)) (sym begins.next)
         (subst (λ w. ManagerDue (manager.Serving s) wanted (managers.serving_wish (t_begun s) number (managers.wish_at w)))
         (asked_so s.lasting.items number (Some wanted) begins.asked) (manager_serving s wanted own))
 
-    manager_due : managers.phase_has_room m.phase ≡ true → Rests (any.Manager m) → actor_of wanted ≡ Some (nodes.Manager (managers.lasting_of m.phase).number)
+    manager_due : managers.phase_has_room m.phase ≡ true → ItemsFit (any.Manager m) → actor_of wanted ≡ Some (nodes.Manager (managers.lasting_of m.phase).number)
         → BeginsWork (any.Manager m) Begin number (Some wanted) → ManagerDue m.phase wanted (managing.happens m Begin)
     unfolding managing.happens
-    manager_due room rests own begins =
+    manager_due room fits own begins =
         by_test (ManagerDue m.phase wanted) (managers.phase_has_room m.phase) (managing.on_event m.peers m.phase Begin) (still m.phase)
-        (λ _. manager_begins m.phase rests own begins) (λ no. contrary (sym no ∙ room))
+        (λ _. manager_begins m.phase fits own begins) (λ no. contrary (sym no ∙ room))
 
 -- ---- the cleaner
 
@@ -369,9 +379,20 @@ module _ (v : StoreServer) (number : ℕ) where
   abbrev v_begun : StoreServer
   v_begun = record v { items = items_begin v.items }
 
-  server_loses : LossIsDone (any.Server v) number (as_any any.Server (storing.seen v.number (storing.on_lose v_begun number)))
+  -- the next generation is one more: the one before is far from the end
+  next_generation : storing.is_far_from_ends v ≡ true → min (v.shelf.generation + 1) u32_end ≡ v.shelf.generation + 1
+  next_generation room =
+      let far : has_room v.shelf.generation ≡ true = and_first (has_room v.shelf.generation) (has_room v.questions.last && has_room v.maps.version) room in
+      let below : v.shelf.generation ≤ u32_end - counter_room = leb-true v.shelf.generation (u32_end - counter_room) far in
+      min-eq_left (omega (arith, below))
+
+  server_loses : storing.is_far_from_ends v ≡ true
+      → LossIsDone (any.Server v) number (as_any any.Server (storing.seen v.number (storing.on_lose v_begun number)))
   unfolding storing.on_lose
-  server_loses = record { acts = cut_begun (nodes.Server v.number) v.items number _; falls = refl }
+  server_loses room = record {
+    acts = cut_begun (nodes.Server v.number) v.items number _;
+    loses = record { generation = next_generation room; held = refl; fences = refl; marks = refl };
+  }
 
   server_busy : (item : ℕ) → IsOpen v.items item
       → Refuses (any.Server v) number (as_any any.Server (storing.seen v.number (storing.on_rebuild v_begun number))) answer.Busy
@@ -381,25 +402,26 @@ module _ (v : StoreServer) (number : ℕ) where
       (storing.tells v_begun (Answers number answer.Busy ∷ [])) _ (λ _. record { acts = refl; packets = refl; stands = refl })
       (λ no. contrary (sym no ∙ waits_still v.items item waits))
 
-  server_wish : (wanted : Work) → actor_of wanted ≡ Some (nodes.Server v.number) → ServerDue wanted (storing.on_wish v_begun number (storing.wish_of (Some wanted)))
-  server_wish (work.Crash node) own = λ crashes. absurd crashes
-  server_wish (work.Restart node) own = λ crashes. absurd crashes
-  server_wish (work.Lose server) own = server_loses
-  server_wish (work.Rebuild server) own = (λ apart. absurd (apart refl), λ item serves waits. server_busy item waits)
-  server_wish _ own = absurd cc
+  server_wish : storing.is_far_from_ends v ≡ true → (wanted : Work) → actor_of wanted ≡ Some (nodes.Server v.number)
+      → ServerDue wanted (storing.on_wish v_begun number (storing.wish_of (Some wanted)))
+  server_wish room (work.Crash node) own = λ crashes. absurd crashes
+  server_wish room (work.Restart node) own = λ crashes. absurd crashes
+  server_wish room (work.Lose server) own = server_loses room
+  server_wish room (work.Rebuild server) own = (λ apart. absurd (apart refl), λ item serves waits. server_busy item waits)
+  server_wish room _ own = absurd cc
 
-  server_begins : (wanted : Work) → actor_of wanted ≡ Some (nodes.Server v.number) → BeginsWork (any.Server v) Begin number (Some wanted)
+  server_begins : storing.is_far_from_ends v ≡ true → (wanted : Work) → actor_of wanted ≡ Some (nodes.Server v.number) → BeginsWork (any.Server v) Begin number (Some wanted)
       → ServerDue wanted (storing.on_begin v)
   unfolding storing.on_begin
-  server_begins wanted own begins =
+  server_begins room wanted own begins =
       subst (λ o. ServerDue wanted (storing.at_item v_begun o)) (sym begins.next)
       (subst (λ w. ServerDue wanted (storing.on_wish v_begun number (storing.wish_of w))) (asked_so v.items number (Some wanted) begins.asked)
-      (server_wish wanted own))
+      (server_wish room wanted own))
 
   server_due : (wanted : Work) → storing.is_far_from_ends v ≡ true → actor_of wanted ≡ Some (nodes.Server v.number)
       → BeginsWork (any.Server v) Begin number (Some wanted) → ServerDue wanted (storing.takes v Begin)
   server_due wanted room own begins =
-      by_test (ServerDue wanted) (storing.is_far_from_ends v) (storing.on_event v Begin) (still v) (λ _. server_begins wanted own begins)
+      by_test (ServerDue wanted) (storing.is_far_from_ends v) (storing.on_event v Begin) (still v) (λ _. server_begins room wanted own begins)
       (λ no. contrary (sym no ∙ room))
 
 -- ---- the registry
@@ -416,9 +438,15 @@ module _ (r : RegistryNode) (number : ℕ) where
   unfolding registering.on_move reassign
   registry_moves slot k can =
       let epoch : ℕ = (entry_at (manager_map_advance r.board.entries slot k) slot).epoch in
+      let news : News = registering.news_of (moved r.board slot k) in
       by_test (λ (made : Made). MoveIsDone (any.Registry r) number (as_any any.Registry (registering.seen (registering.after_move r_begun number made))) slot k)
       (can_move r.board slot) (record { state = moved r.board slot k; outs = Changed ∷ Epoch epoch ∷ [] }) (still r.board)
-      (λ _. record { epoch = epoch; acts = sends_silent nodes.Registry (others r.peers nodes.Registry) (body.MapNews (registering.news_of (moved r.board slot k))) (Answers number (answer.Epoch epoch) ∷ []); gives = (refl, refl) })
+      (λ _. record {
+        epoch = epoch;
+        acts = sends_silent nodes.Registry (others r.peers nodes.Registry) (body.MapNews news) (Answers number (answer.Epoch epoch) ∷ []);
+        gives = (refl, refl);
+        tells = (refl, sends_told news (others r.peers nodes.Registry) (Answers number (answer.Epoch epoch) ∷ []) refl);
+      })
       (λ no. contrary (sym no ∙ can))
 
   registry_item : (wanted : Work) → actor_of wanted ≡ Some nodes.Registry
@@ -444,8 +472,8 @@ module _ (r : RegistryNode) (number : ℕ) where
       (λ no. contrary (sym no ∙ room))
 
 pub each_due : EachItemIsDue
-each_due (any.Client c) number wanted room rests own begins = client_due c number wanted room own begins
-each_due (any.Manager m) number wanted room rests own begins = manager_due m number wanted room rests own begins
-each_due (any.Server v) number wanted room rests own begins = server_due v number wanted room own begins
-each_due (any.Cleaner c) number wanted room rests own begins = cleaner_due c number wanted room own begins
-each_due (any.Registry r) number wanted room rests own begins = registry_due r number wanted room own begins
+each_due (any.Client c) number wanted room fits own begins = client_due c number wanted room own begins
+each_due (any.Manager m) number wanted room fits own begins = manager_due m number wanted room fits own begins
+each_due (any.Server v) number wanted room fits own begins = server_due v number wanted room own begins
+each_due (any.Cleaner c) number wanted room fits own begins = cleaner_due c number wanted room own begins
+each_due (any.Registry r) number wanted room fits own begins = registry_due r number wanted room own begins

@@ -4,6 +4,7 @@ use Rattle.std.proofs.Math.Seq.{drop-append_seam}
 use Rattle.core_world.specs.AnyNode.{any_start, any_step}
 use Rattle.core_world.specs.declared.any_node.AnyNode.{AnyNode}
 use Rattle.node_base.specs.Beginning.{next_item}
+use Rattle.node_slots.specs.node_tie.RegistryEvents.{RegistryEventGoes, RegistryStarts}
 use Rattle.run_laws.proofs.world_law.Everyone.{everyone_so}
 use Rattle.run_laws.proofs.world_law.Start.{first_stands}
 use Rattle.run_laws.proofs.world_law.Turning.{next_cluster}
@@ -22,12 +23,14 @@ use Rattle.xfs_base.specs.declared.node.NodeId.{NodeId}
 use Rattle.xfs_base.specs.declared.node.NodeId.TheVariants as nodes
 use Rattle.run_answers.proofs.act_law.Runs.{moment_first}
 use Rattle.run_answers.proofs.due_law.Dues.{each_due}
+use Rattle.run_answers.proofs.due_law.Giving.{can_give}
 use Rattle.run_answers.proofs.due_law.Turns.{each_event, starts_serve}
+use Rattle.run_answers.proofs.due_law.Waiting.{waits_so}
 use Rattle.run_answers.proofs.once_law.Runs.{Known, node_known}
 use Rattle.run_answers.proofs.standing_law.Moments.{each_stands}
-use Rattle.run_answers.proofs.standing_law.Runs.{Asked, next_asked}
+use Rattle.run_answers.proofs.standing_law.Runs.{Asked, next_asked, stands_at}
 use Rattle.headline.specs.Items.{asked_at, items_in, name_in}
-use Rattle.headline.specs.Dues.{DueAt, IsDue, NothingComes, PassesClocks, Rests, TakesTurn, has_counters}
+use Rattle.headline.specs.Dues.{DueAt, IsDue, ItemsFit, NothingComes, PassesClocks, TakesTurn, has_counters}
 use Rattle.run_answers.specs.due_law.Runs.{EachRunAnswersDue}
 use Rattle.headline.specs.Standings.{standing}
 use Rattle.headline.specs.Standings.Standing.{Serves}
@@ -96,15 +99,15 @@ module _ (e : Estate AnyNode) where
 
   -- ---- what is open
 
-  first_rests : (name : NodeId) → Rests (any_start name e.script.setup (items_of e.script.lines name))
-  first_rests (nodes.Client k) = tt
-  first_rests (nodes.Manager k) = tt
-  first_rests (nodes.Server k) = tt
-  first_rests nodes.Cleaner = tt
-  first_rests nodes.Registry = tt
+  first_fits : (name : NodeId) → ItemsFit (any_start name e.script.setup (items_of e.script.lines name))
+  first_fits (nodes.Client k) = tt
+  first_fits (nodes.Manager k) = tt
+  first_fits (nodes.Server k) = tt
+  first_fits nodes.Cleaner = tt
+  first_fits nodes.Registry = refl
 
-  rests_at : (count : ℕ) (name : NodeId) (x : AnyNode) → node_named (moment e count) name ≡ Some x → Rests x
-  rests_at = each_stands (λ name x. Rests x) e first_rests (λ count event happens x was rests. (each_event x (what_of event)).rests rests)
+  pub fits_at : (count : ℕ) (name : NodeId) (x : AnyNode) → node_named (moment e count) name ≡ Some x → ItemsFit x
+  fits_at = each_stands (λ name x. ItemsFit x) e first_fits (λ count event happens x was fits. (each_event x (what_of event)).items_fit fits)
 
   -- ---- an event
 
@@ -153,7 +156,7 @@ module _ (e : Estate AnyNode) where
         → asked_at (items_of e.script.lines (node_of event)) number ≡ Some wanted → has_counters x ≡ true → IsDue x number (any_step x (what_of event)) wanted
     due_so number wanted begin next asked room =
         subst (λ what. IsDue x number (any_step x what) wanted) (sym begin)
-        (each_due x number wanted room (rests_at count (node_of event) x was) own
+        (each_due x number wanted room (fits_at count (node_of event) x was) own
         (record { begin = refl; next = next; asked = ap (λ (ws : List Work). asked_at ws number) known.works ∙ asked }))
       where
         known : Known e (node_of event) x
@@ -170,12 +173,14 @@ module _ (e : Estate AnyNode) where
     due_at = record {
       turn = turn (turns_or_ends w event x was);
       stands = each_event x (what_of event);
-      rests = rests_at count (node_of event) x was;
+      items_fit = fits_at count (node_of event) x was;
       due = due_so;
     }
 
-pub each_run : EachRunAnswersDue
-each_run e = record {
+pub each_run : RegistryStarts → RegistryEventGoes → EachRunAnswersDue
+each_run begin goes e = record {
   starts = λ name x fact. start_so e name x (subst (λ (v : World AnyNode). node_named v name ≡ Some x) (moment_first e) fact);
+  waits = λ count name x fact. waits_so e name x (fits_at e count name x fact) (stands_at e count name x fact);
+  gives = λ count slot r was room within. can_give begin goes e count slot r was room within;
   events = λ count event happens before was. due_at e count event happens before was;
 }

@@ -16,7 +16,7 @@ use Rattle.wire_msg.specs.NodeStep.{NodeStep}
 use Rattle.xfs_base.specs.declared.node.NodeId.{NodeId}
 use Rattle.run_answers.proofs.once_law.Items.{begun_works}
 use Rattle.headline.specs.Items.{asked_at}
-use Rattle.headline.specs.Dues.{BeginsWork, EndsOpening, Fells, KeepsStanding, Restarts, Rests}
+use Rattle.headline.specs.Dues.{BeginsWork, EndsOpening, Fells, HasOpen, ItemsFit, KeepsStanding, Restarts}
 use Rattle.headline.specs.Standings.{Standing, standing}
 use Rattle.headline.specs.Standings.Standing.{Fallen, Opens, Serves}
 
@@ -37,6 +37,10 @@ opens_serves s opens serves = (let clash : Opens ≡ Serves = sym opens ∙ serv
 pub asked_begun : (items : Items) (number : ℕ) → asked_at items.works number ≡ asked_at (items_begin items).works number
 asked_begun items number = sym (ap (λ (ws : List Work). asked_at ws number) (begun_works items))
 
+-- what is open is open still
+pub open_same : (before after : Items) → after.unanswered ≡ before.unanswered → HasOpen before → HasOpen after
+open_same before after same fits = (fits.0, same ∙ fits.1)
+
 -- what is done is among the acts, behind what is cut
 pub done_among : (me : NodeId) (o : Option ℕ) (number : ℕ) (more : List Effect)
     → In (act.Answered me number answer.Done) (acts_of me (answers_unanswered o answer.Cut ++ Answers number answer.Done ∷ more))
@@ -54,56 +58,57 @@ answer_among me (Lose name ∷ outs) o a item waits = inr (answer_among me outs 
 answer_among me (Does x ∷ outs) o a item waits = inr (answer_among me outs o a item waits)
 
 module _ (node : AnyNode) (what : Do) (s : NodeStep AnyNode) where
-  pub serves_so : standing node ≡ Serves → standing s.node ≡ Serves → (Rests node → Rests s.node) → KeepsStanding node what s
-  serves_so serves on rests = record {
+  pub serves_so : standing node ≡ Serves → standing s.node ≡ Serves → (ItemsFit node → ItemsFit s.node) → KeepsStanding node what s
+  serves_so serves on fits = record {
     serving = λ _. inl on;
     opening = λ opens. absurd (opens_serves (standing node) opens serves);
     fallen = λ fallen. absurd (serves_apart node serves fallen);
     silent = λ fallen none. absurd (serves_apart node serves fallen);
-    rests = rests;
+    items_fit = fits;
   }
 
-  pub serves_on : standing node ≡ Serves → standing s.node ≡ Serves → Rests s.node → KeepsStanding node what s
-  serves_on serves on rests = serves_so serves on (λ _. rests)
+  pub serves_on : standing node ≡ Serves → standing s.node ≡ Serves → ItemsFit s.node → KeepsStanding node what s
+  serves_on serves on fits = serves_so serves on (λ _. fits)
 
-  pub opens_so : standing node ≡ Opens → (standing s.node ≡ Opens) ⊎ (EndsOpening node what s ⊎ Fells node what s) → Rests s.node → KeepsStanding node what s
-  opens_so opens so rests = record {
+  pub opens_so : standing node ≡ Opens → (standing s.node ≡ Opens) ⊎ (EndsOpening node what s ⊎ Fells node what s) → (ItemsFit node → ItemsFit s.node)
+      → KeepsStanding node what s
+  opens_so opens so fits = record {
     serving = λ serves. absurd (opens_serves (standing node) opens serves);
     opening = λ _. so;
     fallen = λ fallen. absurd (opens_fallen (standing node) opens fallen);
     silent = λ fallen none. absurd (opens_fallen (standing node) opens fallen);
-    rests = λ _. rests;
+    items_fit = fits;
   }
 
-  pub opens_on : standing node ≡ Opens → standing s.node ≡ Opens → Rests s.node → KeepsStanding node what s
-  opens_on opens on rests = opens_so opens (inl on) rests
+  pub opens_on : standing node ≡ Opens → standing s.node ≡ Opens → (ItemsFit node → ItemsFit s.node) → KeepsStanding node what s
+  opens_on opens on fits = opens_so opens (inl on) fits
 
-  pub falls_so : standing node ≡ Serves → Fells node what s → Rests s.node → KeepsStanding node what s
-  falls_so serves fells rests = record {
+  pub falls_so : standing node ≡ Serves → Fells node what s → ItemsFit s.node → KeepsStanding node what s
+  falls_so serves fells fits = record {
     serving = λ _. inr fells;
     opening = λ opens. absurd (opens_serves (standing node) opens serves);
     fallen = λ fallen. absurd (serves_apart node serves fallen);
     silent = λ fallen none. absurd (serves_apart node serves fallen);
-    rests = λ _. rests;
+    items_fit = λ _. fits;
   }
 
   -- nothing is done by one that has fallen
-  pub down_still : standing node ≡ Fallen → standing s.node ≡ Fallen → s.acts ≡ [] → s.packets ≡ [] → (Rests node → Rests s.node) → KeepsStanding node what s
-  down_still fallen on acts packets rests = record {
+  pub down_still : standing node ≡ Fallen → standing s.node ≡ Fallen → s.acts ≡ [] → s.packets ≡ [] → (ItemsFit node → ItemsFit s.node) → KeepsStanding node what s
+  down_still fallen on acts packets fits = record {
     serving = λ serves. absurd (serves_apart node serves fallen);
     opening = λ opens. absurd (opens_fallen (standing node) opens fallen);
     fallen = λ _. inl on;
     silent = λ _ none. (acts, packets);
-    rests = rests;
+    items_fit = fits;
   }
 
   -- an item begins of one that has fallen
   pub down_begins : standing node ≡ Fallen → (number : ℕ) (wanted : Option Work) → BeginsWork node what number wanted
-      → (standing s.node ≡ Fallen) ⊎ Restarts node what s → (Rests node → Rests s.node) → KeepsStanding node what s
-  down_begins fallen number wanted begins on rests = record {
+      → (standing s.node ≡ Fallen) ⊎ Restarts node what s → (ItemsFit node → ItemsFit s.node) → KeepsStanding node what s
+  down_begins fallen number wanted begins on fits = record {
     serving = λ serves. absurd (serves_apart node serves fallen);
     opening = λ opens. absurd (opens_fallen (standing node) opens fallen);
     fallen = λ _. on;
     silent = λ _ none. absurd (none number begins.begin begins.next);
-    rests = rests;
+    items_fit = fits;
   }

@@ -34,7 +34,10 @@ use Rattle.node_base.specs.declared.effects.Effect.{Effect}
 use Rattle.node_base.specs.declared.effects.Effect.TheVariants.{Does}
 use Rattle.node_base.specs.declared.items.Items.{Items}
 use Rattle.node_base.specs.Effects.{acts_of}
+use Rattle.node_base.specs.Room.{has_room}
 use Rattle.node_base.specs.Shape.{is_well_formed}
+use Rattle.registry_node.specs.declared.node.RegistryNode.{RegistryNode}
+use Rattle.registry_node.specs.Events as registering
 use Rattle.token_protocol.specs.Basics.{In}
 use Rattle.version_model.specs.declared.act.Act.TheVariants as act
 use Rattle.version_model.specs.declared.answer.Answer.TheVariants as answer
@@ -50,7 +53,7 @@ use Rattle.xfs_base.specs.declared.node.NodeId.{NodeId}
 use Rattle.xfs_base.specs.declared.node.NodeId.TheVariants as nodes
 use Rattle.xfs_base.specs.Steps.{still, saying}
 use Rattle.run_answers.proofs.once_law.Items.{begun_open}
-use Rattle.run_answers.proofs.due_law.Standing.{answer_among, asked_begun, done_among, down_begins, down_still, falls_so, opens_on, opens_so, serves_on, serves_so}
+use Rattle.run_answers.proofs.due_law.Standing.{answer_among, asked_begun, done_among, down_begins, down_still, falls_so, open_same, opens_on, opens_so, serves_on, serves_so}
 use Rattle.run_answers.specs.due_law.Turns.{EachEventKeepsStanding, EachStartServes}
 use Rattle.headline.specs.Dues.{BeginsWork, KeepsStanding}
 use Rattle.headline.specs.Standings.{standing}
@@ -73,13 +76,14 @@ module _ (c : Client) where
   ClientKeeps p what w = KeepsStanding (client_in p) what (as_any any.Client (clients.stepped (record c { phase = p }) w))
 
   client_still : (p : client_phase.Phase) (what : Do) → ClientKeeps p what (still p)
-  client_still (client.Down l) what = down_still (client_in (client.Down l)) what _ refl refl refl refl (λ rests. rests)
-  client_still (client.Opening l o) what = opens_on (client_in (client.Opening l o)) what _ refl refl tt
+  client_still (client.Down l) what = down_still (client_in (client.Down l)) what _ refl refl refl refl (λ fits. fits)
+  client_still (client.Opening l o) what = opens_on (client_in (client.Opening l o)) what _ refl refl (λ fits. fits)
   client_still (client.Serving s) what = serves_on (client_in (client.Serving s)) what _ refl refl tt
 
   client_opened : (l m : Lasting) (o : openings.Opening) (what : Do) → m.items ≡ l.items → (w : Went) (p : Progress)
       → ClientKeeps (client.Opening l o) what (saying w.effects (clients.phase_after m c.cache p))
-  client_opened l m o what same w (progress.Opening r) = opens_on (client_in (client.Opening l o)) what _ refl refl tt
+  client_opened l m o what same w (progress.Opening r) =
+      opens_on (client_in (client.Opening l o)) what _ refl refl (open_same l.items m.items (ap (λ (i : Items). i.unanswered) same))
   client_opened l m o what same w (progress.Opened r) =
       opens_so (client_in (client.Opening l o)) what _ refl
       (inr (inl (inl (
@@ -89,7 +93,7 @@ module _ (c : Client) where
             (append_assoc w.effects (Does (act.Back m.number r.chain) ∷ push_all r.promised.managers r.feed) (answers_unanswered m.items.unanswered answer.Done))
             (answer_among me (w.effects ++ Does (act.Back m.number r.chain) ∷ push_all r.promised.managers r.feed) m.items.unanswered answer.Done item
             (ap (λ (i : Items). i.unanswered) same ∙ waits)),
-      )))) tt
+      )))) (λ _. tt)
     where
       me : NodeId
       me = nodes.Client l.number
@@ -102,7 +106,7 @@ module _ (c : Client) where
           λ item waits.
               answer_among (nodes.Client l.number) w.effects m.items.unanswered (answer.Lost name) item (ap (λ (i : Items). i.unanswered) same ∙ waits),
         ),
-      )))) refl
+      )))) (λ _. refl)
 
   client_hears : (p : client_phase.Phase) (packet : Packet) → ClientKeeps p (Deliver packet) (clients.on_deliver c.cache p packet)
   unfolding clients.on_deliver
@@ -121,16 +125,16 @@ module _ (c : Client) where
   module _ (l : Lasting) (number : ℕ) where
     client_down : (wanted : Option Work) → BeginsWork (client_in (client.Down l)) Begin number wanted
         → ClientKeeps (client.Down l) Begin (clients.down_begins c.peers.servers (record l { items = items_begin l.items }) number (clients.wish_of wanted))
-    client_down None begins = down_begins (client_in (client.Down l)) Begin _ refl number None begins (inl refl) (λ rests. begun_open l.items ∙ rests)
+    client_down None begins = down_begins (client_in (client.Down l)) Begin _ refl number None begins (inl refl) (λ fits. begun_open l.items ∙ fits)
     client_down (Some (work.Restart node)) begins =
         down_begins (client_in (client.Down l)) Begin _ refl number (Some (work.Restart node)) begins (inr (record { number = number; named = node; begins = begins }))
-        (λ rests. tt)
+        (λ _. (number, refl))
     client_down (Some other) begins =
-        down_begins (client_in (client.Down l)) Begin _ refl number (Some other) begins (inl refl) (λ rests. begun_open l.items ∙ rests)
+        down_begins (client_in (client.Down l)) Begin _ refl number (Some other) begins (inl refl) (λ fits. begun_open l.items ∙ fits)
 
     client_opening : (o : openings.Opening) (wanted : Option Work) → BeginsWork (client_in (client.Opening l o)) Begin number wanted
         → ClientKeeps (client.Opening l o) Begin (clients.opening_begins (record l { items = items_begin l.items }) o number (clients.wish_of wanted))
-    client_opening o None begins = opens_on (client_in (client.Opening l o)) Begin _ refl refl tt
+    client_opening o None begins = opens_on (client_in (client.Opening l o)) Begin _ refl refl (open_same l.items (items_begin l.items) (begun_open l.items))
     client_opening o (Some (work.Crash node)) begins =
         opens_so (client_in (client.Opening l o)) Begin _ refl
         (inr (inr (record {
@@ -140,8 +144,8 @@ module _ (c : Client) where
           done = done_among (nodes.Client l.number) (items_begin l.items).unanswered number [];
           falls = refl;
         })))
-        refl
-    client_opening o (Some other) begins = opens_on (client_in (client.Opening l o)) Begin _ refl refl tt
+        (λ _. refl)
+    client_opening o (Some other) begins = opens_on (client_in (client.Opening l o)) Begin _ refl refl (open_same l.items (items_begin l.items) (begun_open l.items))
 
   module _ (s : Serving) (number : ℕ) where
     abbrev s_begun : Serving
@@ -194,8 +198,8 @@ module _ (m : Manager) where
   ManagerKeeps p what w = KeepsStanding (manager_in p) what (as_any any.Manager (managing.seen (record m { phase = p }) w))
 
   manager_still : (p : manager_phase.Phase) (what : Do) → ManagerKeeps p what (still p)
-  manager_still (manager.Down l) what = down_still (manager_in (manager.Down l)) what _ refl refl refl refl (λ rests. rests)
-  manager_still (manager.Waiting l hello) what = serves_so (manager_in (manager.Waiting l hello)) what _ refl refl (λ rests. rests)
+  manager_still (manager.Down l) what = down_still (manager_in (manager.Down l)) what _ refl refl refl refl (λ fits. fits)
+  manager_still (manager.Waiting l hello) what = serves_so (manager_in (manager.Waiting l hello)) what _ refl refl (λ fits. fits)
   manager_still (manager.Serving s) what = serves_on (manager_in (manager.Serving s)) what _ refl refl tt
 
   manager_awaits : (l : Life) (hello : ℕ) (packet : Packet) (b : Body) → ManagerKeeps (manager.Waiting l hello) (Deliver packet) (managing.on_waiting m.peers l hello b)
@@ -213,7 +217,7 @@ module _ (m : Manager) where
   manager_time : (p : manager_phase.Phase) → ManagerKeeps p Tick (managing.on_time p)
   unfolding managing.on_time
   manager_time (manager.Down l) = manager_still (manager.Down l) Tick
-  manager_time (manager.Waiting l hello) = serves_so (manager_in (manager.Waiting l hello)) Tick _ refl refl (λ rests. rests)
+  manager_time (manager.Waiting l hello) = serves_so (manager_in (manager.Waiting l hello)) Tick _ refl refl (λ fits. fits)
   manager_time (manager.Serving s) = serves_on (manager_in (manager.Serving s)) Tick _ refl refl tt
 
   module _ (l : Life) (number : ℕ) where
@@ -236,18 +240,18 @@ module _ (m : Manager) where
     manager_down : (wanted : Option Work) → BeginsWork (manager_in (manager.Down l)) Begin number wanted
         → ManagerKeeps (manager.Down l) Begin (managers.down_wish l_begun number (managers.wish_at wanted))
     unfolding managers.restart
-    manager_down None begins = down_begins (manager_in (manager.Down l)) Begin _ refl number None begins (inl refl) (λ rests. begun_open l.items ∙ rests)
+    manager_down None begins = down_begins (manager_in (manager.Down l)) Begin _ refl number None begins (inl refl) (λ fits. begun_open l.items ∙ fits)
     manager_down (Some (work.Restart node)) begins =
         down_begins (manager_in (manager.Down l)) Begin _ refl number (Some (work.Restart node)) begins (inr (record { number = number; named = node; begins = begins }))
-        (λ rests. begun_open l.items ∙ rests)
+        (λ fits. begun_open l.items ∙ fits)
     manager_down (Some other) begins =
-        down_begins (manager_in (manager.Down l)) Begin _ refl number (Some other) begins (inl refl) (λ rests. begun_open l.items ∙ rests)
+        down_begins (manager_in (manager.Down l)) Begin _ refl number (Some other) begins (inl refl) (λ fits. begun_open l.items ∙ fits)
 
     manager_waiting : (hello : ℕ) (wanted : Option Work) → BeginsWork (manager_in (manager.Waiting l hello)) Begin number wanted
         → ManagerKeeps (manager.Waiting l hello) Begin (managers.waiting_wish l_begun hello number (managers.wish_at wanted))
-    manager_waiting hello None begins = serves_so (manager_in (manager.Waiting l hello)) Begin _ refl refl (λ rests. begun_open l.items ∙ rests)
+    manager_waiting hello None begins = serves_so (manager_in (manager.Waiting l hello)) Begin _ refl refl (λ fits. begun_open l.items ∙ fits)
     manager_waiting hello (Some (work.Crash node)) begins = manager_crashes (manager.Waiting l hello) node refl begins
-    manager_waiting hello (Some other) begins = serves_so (manager_in (manager.Waiting l hello)) Begin _ refl refl (λ rests. begun_open l.items ∙ rests)
+    manager_waiting hello (Some other) begins = serves_so (manager_in (manager.Waiting l hello)) Begin _ refl refl (λ fits. begun_open l.items ∙ fits)
 
   manager_serving : (s : ManagerServing) (number : ℕ) (wanted : Option Work) → BeginsWork (manager_in (manager.Serving s)) Begin number wanted
       → ManagerKeeps (manager.Serving s) Begin (managers.serving_wish (record s { lasting = managers.with_begun s.lasting }) number (managers.wish_at wanted))
@@ -261,13 +265,13 @@ module _ (m : Manager) where
   manager_begins (manager.Down l) = by (next_item l.items) refl
     where
       by : (item : Option ℕ) → next_item l.items ≡ item → ManagerKeeps (manager.Down l) Begin (managers.down_item (managers.with_begun l) item)
-      by None fact = down_still (manager_in (manager.Down l)) Begin _ refl refl refl refl (λ rests. begun_open l.items ∙ rests)
+      by None fact = down_still (manager_in (manager.Down l)) Begin _ refl refl refl refl (λ fits. begun_open l.items ∙ fits)
       by (Some number) fact =
           manager_down l number (work_at (items_begin l.items) number) (record { begin = refl; next = fact; asked = asked_begun l.items number })
   manager_begins (manager.Waiting l hello) = by (next_item l.items) refl
     where
       by : (item : Option ℕ) → next_item l.items ≡ item → ManagerKeeps (manager.Waiting l hello) Begin (managers.waiting_item (managers.with_begun l) hello item)
-      by None fact = serves_so (manager_in (manager.Waiting l hello)) Begin _ refl refl (λ rests. begun_open l.items ∙ rests)
+      by None fact = serves_so (manager_in (manager.Waiting l hello)) Begin _ refl refl (λ fits. begun_open l.items ∙ fits)
       by (Some number) fact =
           manager_waiting l number hello (work_at (items_begin l.items) number) (record { begin = refl; next = fact; asked = asked_begun l.items number })
   manager_begins (manager.Serving s) = by (next_item s.lasting.items) refl
@@ -302,14 +306,15 @@ module _ (c : Cleaner) where
   CleanerKeeps p what w = KeepsStanding (cleaner_in p) what (as_any any.Cleaner (cleaning.seen (record c { phase = p }) w))
 
   cleaner_still : (p : cleaner_phase.Phase) (what : Do) → CleanerKeeps p what (still p)
-  cleaner_still (cleaner.Down l) what = down_still (cleaner_in (cleaner.Down l)) what _ refl refl refl refl (λ rests. rests)
-  cleaner_still (cleaner.Opening l o) what = opens_on (cleaner_in (cleaner.Opening l o)) what _ refl refl tt
+  cleaner_still (cleaner.Down l) what = down_still (cleaner_in (cleaner.Down l)) what _ refl refl refl refl (λ fits. fits)
+  cleaner_still (cleaner.Opening l o) what = opens_on (cleaner_in (cleaner.Opening l o)) what _ refl refl (λ fits. fits)
   cleaner_still (cleaner.Serving e) what = serves_on (cleaner_in (cleaner.Serving e)) what _ refl refl tt
 
   cleaner_opened : (l m : CleanerLasting) (o : openings.Opening) (what : Do) → m.items ≡ l.items → (w : Went) (p : Progress)
       → CleanerKeeps (cleaner.Opening l o) what (saying w.effects (cleaning.after_opening m p))
   unfolding cleaning.after_opening
-  cleaner_opened l m o what same w (progress.Opening r) = opens_on (cleaner_in (cleaner.Opening l o)) what _ refl refl tt
+  cleaner_opened l m o what same w (progress.Opening r) =
+      opens_on (cleaner_in (cleaner.Opening l o)) what _ refl refl (open_same l.items m.items (ap (λ (i : Items). i.unanswered) same))
   cleaner_opened l m o what same w (progress.Opened r) =
       opens_so (cleaner_in (cleaner.Opening l o)) what _ refl
       (inr (inl (inl (
@@ -319,7 +324,7 @@ module _ (c : Cleaner) where
             (append_assoc w.effects (push_all r.promised.managers r.feed) (answers_unanswered m.items.unanswered answer.Done))
             (answer_among nodes.Cleaner (w.effects ++ push_all r.promised.managers r.feed) m.items.unanswered answer.Done item
             (ap (λ (i : Items). i.unanswered) same ∙ waits)),
-      )))) tt
+      )))) (λ _. tt)
   cleaner_opened l m o what same w (progress.Lost name) =
       opens_so (cleaner_in (cleaner.Opening l o)) what _ refl
       (inr (inl (inr (
@@ -329,7 +334,7 @@ module _ (c : Cleaner) where
           λ item waits.
               answer_among nodes.Cleaner w.effects m.items.unanswered (answer.Lost name) item (ap (λ (i : Items). i.unanswered) same ∙ waits),
         ),
-      )))) refl
+      )))) (λ _. refl)
 
   cleaner_hears : (p : cleaner_phase.Phase) (packet : Packet) → CleanerKeeps p (Deliver packet) (cleaning.cleaner_hear p packet)
   unfolding cleaning.cleaner_hear
@@ -352,17 +357,17 @@ module _ (c : Cleaner) where
     cleaner_down : (wanted : Option Work) → BeginsWork (cleaner_in (cleaner.Down l)) Begin number wanted
         → CleanerKeeps (cleaner.Down l) Begin (cleaning.down_wishes c.peers.servers life_begun number (cleaning.wish_of wanted))
     unfolding cleaning.restart
-    cleaner_down None begins = down_begins (cleaner_in (cleaner.Down l)) Begin _ refl number None begins (inl refl) (λ rests. begun_open l.items ∙ rests)
+    cleaner_down None begins = down_begins (cleaner_in (cleaner.Down l)) Begin _ refl number None begins (inl refl) (λ fits. begun_open l.items ∙ fits)
     cleaner_down (Some (work.Restart node)) begins =
         down_begins (cleaner_in (cleaner.Down l)) Begin _ refl number (Some (work.Restart node)) begins (inr (record { number = number; named = node; begins = begins }))
-        (λ rests. tt)
+        (λ _. (number, refl))
     cleaner_down (Some other) begins =
-        down_begins (cleaner_in (cleaner.Down l)) Begin _ refl number (Some other) begins (inl refl) (λ rests. begun_open l.items ∙ rests)
+        down_begins (cleaner_in (cleaner.Down l)) Begin _ refl number (Some other) begins (inl refl) (λ fits. begun_open l.items ∙ fits)
 
     cleaner_opening : (o : openings.Opening) (wanted : Option Work) → BeginsWork (cleaner_in (cleaner.Opening l o)) Begin number wanted
         → CleanerKeeps (cleaner.Opening l o) Begin (cleaning.opening_wishes life_begun o number (cleaning.wish_of wanted))
     unfolding cleaning.crash
-    cleaner_opening o None begins = opens_on (cleaner_in (cleaner.Opening l o)) Begin _ refl refl tt
+    cleaner_opening o None begins = opens_on (cleaner_in (cleaner.Opening l o)) Begin _ refl refl (open_same l.items (items_begin l.items) (begun_open l.items))
     cleaner_opening o (Some (work.Crash node)) begins =
         opens_so (cleaner_in (cleaner.Opening l o)) Begin _ refl
         (inr (inr (record {
@@ -372,8 +377,8 @@ module _ (c : Cleaner) where
           done = done_among nodes.Cleaner (items_begin l.items).unanswered number [];
           falls = refl;
         })))
-        refl
-    cleaner_opening o (Some other) begins = opens_on (cleaner_in (cleaner.Opening l o)) Begin _ refl refl tt
+        (λ _. refl)
+    cleaner_opening o (Some other) begins = opens_on (cleaner_in (cleaner.Opening l o)) Begin _ refl refl (open_same l.items (items_begin l.items) (begun_open l.items))
 
   cleaner_serving : (e : Emptying) (number : ℕ) (wanted : Option Work) → BeginsWork (cleaner_in (cleaner.Serving e)) Begin number wanted
       → CleanerKeeps (cleaner.Serving e) Begin (cleaning.serving_wishes (record e { lasting = cleaning.begun_life e.lasting }) number (cleaning.wish_of wanted))
@@ -395,13 +400,13 @@ module _ (c : Cleaner) where
   cleaner_begins (cleaner.Down l) = by (next_item l.items) refl
     where
       by : (item : Option ℕ) → next_item l.items ≡ item → CleanerKeeps (cleaner.Down l) Begin (cleaning.down_at c.peers.servers (cleaning.begun_life l) item)
-      by None fact = down_still (cleaner_in (cleaner.Down l)) Begin _ refl refl refl refl (λ rests. begun_open l.items ∙ rests)
+      by None fact = down_still (cleaner_in (cleaner.Down l)) Begin _ refl refl refl refl (λ fits. begun_open l.items ∙ fits)
       by (Some number) fact =
           cleaner_down l number (work_at (items_begin l.items) number) (record { begin = refl; next = fact; asked = asked_begun l.items number })
   cleaner_begins (cleaner.Opening l o) = by (next_item l.items) refl
     where
       by : (item : Option ℕ) → next_item l.items ≡ item → CleanerKeeps (cleaner.Opening l o) Begin (cleaning.opening_at (cleaning.begun_life l) o item)
-      by None fact = opens_on (cleaner_in (cleaner.Opening l o)) Begin _ refl refl tt
+      by None fact = opens_on (cleaner_in (cleaner.Opening l o)) Begin _ refl refl (open_same l.items (items_begin l.items) (begun_open l.items))
       by (Some number) fact =
           cleaner_opening l number o (work_at (items_begin l.items) number) (record { begin = refl; next = fact; asked = asked_begun l.items number })
   cleaner_begins (cleaner.Serving e) = by (next_item e.lasting.items) refl
@@ -425,6 +430,45 @@ module _ (c : Cleaner) where
       by_test (CleanerKeeps c.phase what) (cleaning.phase_has_room c.phase) (cleaning.happens c.peers c.phase what) (still c.phase) (λ _. cleaner_happens c.phase what)
       (λ _. cleaner_still c.phase what)
 
+-- ---- the registry
+
+-- what is open of it stays so
+module _ (r : RegistryNode) where
+  abbrev SameOpen : registering.Done → Type 0
+  SameOpen d = d.state.items.unanswered ≡ r.items.unanswered
+
+  registry_item : (w : RegistryNode) (number : ℕ) (wish : Option (ℕ × ℕ)) → w.items.unanswered ≡ r.items.unanswered → SameOpen (registering.on_item w number wish)
+  unfolding registering.on_move
+  registry_item w number None same = same
+  registry_item w number (Some wish) same = same
+
+  registry_begins : SameOpen (registering.on_begin r)
+  unfolding registering.on_begin
+  registry_begins = by (next_item r.items)
+    where
+      w : RegistryNode
+      w = record r { items = items_begin r.items }
+
+      by : (item : Option ℕ) → SameOpen (registering.at_item w item)
+      by None = begun_open r.items
+      by (Some number) = registry_item w number (registering.move_of (work_at (items_begin r.items) number)) (begun_open r.items)
+
+  registry_hears : (from : NodeId) (b : Body) → SameOpen (registering.hears r from b)
+  unfolding registering.on_hello registering.on_done
+  registry_hears from (body.Hello hello) = refl
+  registry_hears from (body.CkptDone done) = refl
+  registry_hears from _ = refl
+
+  registry_event : (what : Do) → SameOpen (registering.on_event r what)
+  unfolding registering.on_packet
+  registry_event Begin = registry_begins
+  registry_event (Deliver packet) =
+      by_test SameOpen (is_well_formed r.peers packet) (registering.hears r packet.from packet.body) (still r) (λ _. registry_hears packet.from packet.body) (λ _. refl)
+  registry_event Tick = refl
+
+  registry_open : (what : Do) → SameOpen (registering.takes r what)
+  registry_open what = by_test SameOpen (has_room r.board.version) (registering.on_event r what) (still r) (λ _. registry_event what) (λ _. refl)
+
 -- ---- all kinds
 
 pub each_event : EachEventKeepsStanding
@@ -432,4 +476,4 @@ each_event (any.Client c) what = client_keeps c what
 each_event (any.Manager m) what = manager_keeps m what
 each_event (any.Server v) what = serves_on (any.Server v) what _ refl refl tt
 each_event (any.Cleaner c) what = cleaner_keeps c what
-each_event (any.Registry r) what = serves_on (any.Registry r) what _ refl refl tt
+each_event (any.Registry r) what = serves_so (any.Registry r) what _ refl refl (λ fits. registry_open r what ∙ fits)

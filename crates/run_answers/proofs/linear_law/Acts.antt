@@ -1,5 +1,5 @@
 -- In every run each act of blocks is of an open call, and the answer of a call is the end of its course.
-use Rattle.std.proofs.Common.{◌≡◌, ◌⊎◌, ◌<◌, ◌≤◌, ◌+◌, ℕ, suc, true, false, Bool, cond, List, [], ◌∷◌, ◌++◌, append-nil, append_assoc, slice_get, Option, Some, None, inl, inr, refl, sym, ap, subst, ◌∙◌, arith}
+use Rattle.std.proofs.Common.{◌≡◌, ◌⊎◌, ◌<◌, ◌≤◌, ℕ, suc, true, false, Bool, cond, List, [], ◌∷◌, ◌++◌, append-nil, append_assoc, slice_get, Option, Some, None, inl, inr, refl, sym, ap, subst, ◌∙◌, arith}
 use Rattle.client_call.specs.Calls.{call_of}
 use Rattle.client_call.specs.declared.call.Call.{Call}
 use Rattle.client_call.specs.declared.call.Going.{Going}
@@ -12,7 +12,6 @@ use Rattle.client_running.specs.Opens.{call_at}
 use Rattle.client_serving.specs.declared.serving.Serving.{Serving}
 use Rattle.core_world.specs.declared.any_node.AnyNode.{AnyNode}
 use Rattle.core_world.specs.declared.any_node.AnyNode.TheVariants as any
-use Rattle.file_plan.specs.declared.block_call.BlockAnswer.{BlockAnswer}
 use Rattle.node_base.specs.Beginning.{next_item}
 use Rattle.serving_moves.proofs.item_moves.Keeping.{next_is}
 use Rattle.token_protocol.specs.Basics.{In}
@@ -23,12 +22,9 @@ use Rattle.version_model.specs.declared.answer.Answer.TheVariants as answer
 use Rattle.version_model.specs.declared.work.Work.{Work}
 use Rattle.world_base.specs.declared.estate.Estate.{Estate}
 use Rattle.world_base.specs.declared.event.Event.{Event}
-use Rattle.world_base.specs.declared.world.World.{World}
 use Rattle.world_base.specs.Events.{node_of, what_of}
 use Rattle.world_base.specs.Items.{items_of}
-use Rattle.run_laws.proofs.world_law.Sent.{in_append}
 use Rattle.headline.specs.Moments.{acts_in, moment, node_named}
-use Rattle.xfs_base.specs.declared.node.NodeId.{NodeId}
 use Rattle.xfs_base.specs.declared.node.NodeId.TheVariants as nodes
 use Rattle.run_answers.proofs.act_law.Telling.{in_behind}
 use Rattle.run_answers.proofs.linear_law.Courses.{Coursed, Made, coursed, going_of, made_of}
@@ -39,11 +35,11 @@ use Rattle.run_answers.proofs.own_law.Answered.{each_answered}
 use Rattle.run_answers.proofs.own_law.Runs.{runs_act}
 use Rattle.run_answers.proofs.own_law.Since.{each_has_run, one_client}
 use Rattle.run_answers.proofs.own_law.Single.{NoneOfBlocks, answers_none, no_such, stretch_by}
-use Rattle.run_answers.proofs.own_law.Whole.{blocks_then, of_items_same}
+use Rattle.run_answers.proofs.own_law.Whole.{blocks_then, forget, of_items_same}
 use Rattle.headline.specs.Items.{IsUnanswered, ItemsAnsweredOnce, asked_at}
 use Rattle.headline.specs.Linear.{ActsAreOfCalls, AnswersEndCourses, BeginsIn, DoesCall, HasDone, IsOfOpenCall, asked}
 use Rattle.headline.specs.Courses.{Course, Doing}
-use Rattle.headline.specs.ItemActs.{HasRun, IsBy, IsItsCall, IsOfBlocks, IsOfCall, blocks_by, is_block_of}
+use Rattle.headline.specs.ItemActs.{HasRun, IsBy, IsOfBlocks, IsOfCall, blocks_by, is_block_of}
 use Rattle.headline.specs.Calls.{Acts, IsClients, Stretch, answered_so, call_in, is_of_items, of_items, open_in}
 use Rattle.headline.specs.Calls.Acts.{Rests, Passes, AtOnce, GoesOn, Begins, Loses, Falls, Stops, Returns}
 
@@ -222,9 +218,9 @@ module _ (e : Estate AnyNode) (count : ℕ) (event : Event) (happens : slice_get
   one_call q acts (Rests x y) = inr tt
   one_call q acts (Passes n wanted same b free made calls items) = inr (λ is. is, tt)
   one_call q acts (AtOnce n wanted x refuses b calls items) = inr (λ is. is, tt)
-  one_call q acts (GoesOn call at stays drains st) = inl (goes_on q acts call at st)
+  one_call q acts (GoesOn call at stays drains st) = inl (goes_on q acts call at (forget client st))
   one_call q acts (Begins {s = s} n wanted going same b free made stays drains st) =
-      inl (begins_so q acts s n wanted going same b.next b.asks made (begins_in e count event happens client named c t.there b.begins n b.next) st)
+      inl (begins_so q acts s n wanted going same b.next b.asks made (begins_in e count event happens client named c t.there b.begins n b.next) (forget client st))
   one_call q acts (Loses name over none) = inr (answers_none (nodes.Client client) (open_in c.phase) (answer.Lost name))
   one_call q acts (Falls n wanted flight falls s b crash f) = inr (λ is. is, cut_none (open_in c.phase) n)
   one_call q acts (Stops n wanted o b crash f) = inr (cut_none (open_in c.phase) n)

@@ -18,7 +18,6 @@ use Rattle.token_protocol.specs.Basics.{In}
 use Rattle.version_model.specs.declared.act.Act.{Act}
 use Rattle.version_model.specs.declared.act.Act.TheVariants as act
 use Rattle.version_model.specs.declared.answer.Answer.{Answer}
-use Rattle.version_model.specs.declared.file_call.FileCall.{FileCall}
 use Rattle.version_model.specs.declared.work.Work.{Work}
 use Rattle.version_model.specs.declared.work.Work.TheVariants as work
 use Rattle.xfs_base.specs.declared.node.NodeId.TheVariants as nodes
@@ -34,7 +33,7 @@ module _ (does : Doing) where
   -- ---- where a call stands, by the answers that it had
 
   -- behind any further ones it does what its plan says
-  abbrev PlanAt : List BlockAnswer → Plan → Type 0
+  abbrev pub PlanAt : List BlockAnswer → Plan → Type 0
   PlanAt had One = (x : BlockAnswer) → does (had ++ x ∷ []) ≡ Reply (answer_of x)
   PlanAt had (File p) = (more : List BlockAnswer) → does (had ++ more) ≡ plan.file_plan_next (plan.after_all p more)
 
@@ -49,7 +48,7 @@ module _ (does : Doing) where
       by (Step step) here = (here, at)
       by (Reply a) here = here
 
-  after_at : (had : List BlockAnswer) (q : Plan) (x : BlockAnswer) → PlanAt had q → At (had ++ x ∷ []) (plan_answered q x)
+  pub after_at : (had : List BlockAnswer) (q : Plan) (x : BlockAnswer) → PlanAt had q → At (had ++ x ∷ []) (plan_answered q x)
   after_at had One x at = at x
   after_at had (File p) x at =
       goes_at (had ++ x ∷ []) (plan.file_plan_answered p x) (plan.file_plan_next (plan.file_plan_answered p x)) refl

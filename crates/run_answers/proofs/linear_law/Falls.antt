@@ -18,7 +18,7 @@ use Rattle.world_base.specs.declared.event.Event.{Event}
 use Rattle.world_base.specs.Events.{node_of, what_of}
 use Rattle.world_base.specs.Items.{items_of}
 use Rattle.run_laws.proofs.world_law.Sent.{in_append}
-use Rattle.headline.specs.Moments.{acts_in, moment, node_named}
+use Rattle.headline.specs.Moments.{acts_in, moment}
 use Rattle.xfs_base.specs.declared.node.NodeId.{NodeId}
 use Rattle.xfs_base.specs.declared.node.NodeId.TheVariants as nodes
 use Rattle.xfs_base.specs.declared.segment.SegName.{SegName}
@@ -27,6 +27,7 @@ use Rattle.run_answers.proofs.linear_law.Stretches.{IsAnswer, from_items, in_ite
 use Rattle.run_answers.proofs.linear_law.Turns.{ClientTurn, begins_in, clients_turn}
 use Rattle.run_answers.proofs.once_law.Runs.{Known, node_known}
 use Rattle.run_answers.proofs.own_law.Runs.{runs_act}
+use Rattle.run_answers.proofs.own_law.Whole.{forget}
 use Rattle.headline.specs.Items.{asked_at}
 use Rattle.headline.specs.Linear.{CrashBegins, FallsAreCrashes, RestartEnds, ReturnsAreRestarts, asked}
 use Rattle.headline.specs.Calls.{Acts, IsCrash, Opens, answered_so, is_of_items, of_items, open_in}
@@ -94,8 +95,8 @@ module _ (e : Estate AnyNode) (count : ℕ) (event : Event) (happens : slice_get
   which a neither q acts (Passes n wanted same b free made calls items) among =
       absurd (not_answered (nodes.Client number) (Some n) answer.Done a neither among)
   which a neither q acts (AtOnce n wanted x refuses b calls items) among = absurd (not_answered (nodes.Client number) (Some n) x a neither among)
-  which a neither q acts (GoesOn call at stays drains st) among = absurd (neither (stretch_kind number st a among))
-  which a neither q acts (Begins n wanted going same b free made stays drains st) among = absurd (neither (stretch_kind number st a among))
+  which a neither q acts (GoesOn call at stays drains st) among = absurd (neither (stretch_kind number (forget number st) a among))
+  which a neither q acts (Begins n wanted going same b free made stays drains st) among = absurd (neither (stretch_kind number (forget number st) a among))
   which a neither q acts (Loses name over none) among = absurd (not_answered (nodes.Client number) (open_in c.phase) (answer.Lost name) a neither among)
   which a neither q acts (Falls n wanted flight falls s b crash f) (inl same) = inl (record {
     flight = flight;

@@ -38,9 +38,10 @@ use Rattle.run_answers.proofs.own_law.Answered.{ends_it, is_it}
 use Rattle.run_answers.proofs.own_law.Runs.{owns, runs_act}
 use Rattle.run_answers.proofs.own_law.Since.{one_client}
 use Rattle.run_answers.proofs.own_law.Single.{IsOwnCall}
+use Rattle.run_answers.proofs.own_law.Whole.{forget}
 use Rattle.headline.specs.Items.{ItemsAnsweredOnce, asked_at}
 use Rattle.headline.specs.Linear.{HasDrained, IsSync, SyncsDrain, asked}
-use Rattle.headline.specs.Calls.{Acts, IsCrash, IsDrained, IsRefusal, Stretch, SyncDrains, answered_so, call_in, of_items, open_in}
+use Rattle.headline.specs.Calls.{Acts, IsCrash, IsDrained, IsRefusal, SyncDrains, answered_so, call_in, of_items, open_in}
 use Rattle.headline.specs.Calls.Acts.{Rests, Passes, AtOnce, GoesOn, Begins, Loses, Falls, Stops, Returns}
 use Rattle.headline.specs.Standings.{IsRestart}
 
@@ -126,11 +127,11 @@ module _ (e : Estate AnyNode) (count : ℕ) (event : Event) (t : ClientTurn e co
       absurd (no_going (On (call_new One Sync)) (sym made ∙ sync_going s n w (asked_here n w b.asks (same_item n answer.Done among))))
   drains_so q acts (AtOnce n w x refuses b calls items) among = absurd (not_so (Some n) x (refused x refuses) among)
   drains_so q acts (GoesOn call at stays drains st) among =
-      let end = ends_it answer.Done st among in
+      let end = ends_it answer.Done (forget client st) among in
       let own = own_sync call at end.0 in
       drains own.0 own.1 end.1
   drains_so q acts (Begins {s = s} n w going same b free made stays drains st) among =
-      let end = ends_it answer.Done st among in
+      let end = ends_it answer.Done (forget client st) among in
       let is : Some going ≡ Some (On (call_new One Sync)) = sym made ∙ sync_going s n w (asked_here n w b.asks (one_number n item end.0)) in
       let sync : going ≡ On (call_new One Sync) = cc in
       (subst (λ (g : Going). SyncDrains g q) sync drains) refl refl end.1

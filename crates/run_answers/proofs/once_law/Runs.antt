@@ -145,6 +145,21 @@ answers_itself x what sound node item a among =
     (closes_in (name_in x) (MayBeAnswered (items_in x) what after) (IsOpen after) (any_step x what).acts (each_keeps x what sound).ledger.closes node item a
     among).0
 
+-- what is open behind an event was open before it, or begins by it
+pub open_was : (x : AnyNode) (what : Do) → OpenHasBegun (items_in x) → (item : ℕ) → IsOpen (items_in (any_step x what).node) item
+    → MayBeAnswered (items_in x) what (items_in (any_step x what).node) item
+open_was x what sound item waits =
+    let after : Items = items_in (any_step x what).node in
+    closes_left (name_in x) (MayBeAnswered (items_in x) what after) (IsOpen after) (any_step x what).acts (each_keeps x what sound).ledger.closes item waits
+
+-- and so was what it answers
+pub answered_was : (x : AnyNode) (what : Do) → OpenHasBegun (items_in x) → (node : NodeId) (item : ℕ) (a : Answer)
+    → In (act.Answered node item a) (any_step x what).acts → MayBeAnswered (items_in x) what (items_in (any_step x what).node) item
+answered_was x what sound node item a among =
+    let after : Items = items_in (any_step x what).node in
+    (closes_in (name_in x) (MayBeAnswered (items_in x) what after) (IsOpen after) (any_step x what).acts (each_keeps x what sound).ledger.closes node item a
+    among).1
+
 -- ---- lists of acts
 
 pub unanswered_both : (xs ys : List Act) (node : NodeId) (item : ℕ) → IsUnanswered xs node item → IsUnanswered ys node item → IsUnanswered (xs ++ ys) node item
@@ -458,6 +473,13 @@ pub left_at : (e : Estate AnyNode) (count : ℕ) (name : NodeId) (x : AnyNode)
     → node_in (moment e count).nodes (place_of (moment e count).cluster name) ≡ Some x → (item : ℕ) → IsOpen (items_in x) item ⊎ ((items_in x).begun < item)
     → IsUnanswered (moment e count).acts name item
 left_at e count name x fact item left = ((stands_at e count).nodes name x fact).free item left
+
+-- the open item of a node of a run is one from 1 on, and no act answers it
+pub open_unanswered : (e : Estate AnyNode) (count : ℕ) (name : NodeId) (x : AnyNode)
+    → node_in (moment e count).nodes (place_of (moment e count).cluster name) ≡ Some x → (item : ℕ) → IsOpen (items_in x) item
+    → (1 ≤ item) × IsUnanswered (moment e count).acts name item
+open_unanswered e count name x fact item waits =
+    (let s = (stands_at e count).nodes name x fact in ((s.waits item waits).0, s.free item (inl waits)))
 
 pub runs_answer_once : EachItemIsAnsweredOnce
 runs_answer_once e run =

@@ -38,6 +38,7 @@ use Rattle.run_answers.proofs.act_law.Runs.{begins_next}
 use Rattle.run_answers.proofs.once_law.Runs.{Known, node_known}
 use Rattle.run_answers.proofs.own_law.Runs.{runs_act}
 use Rattle.run_answers.proofs.own_law.Since.{each_has_run, one_client}
+use Rattle.run_answers.proofs.own_law.Whole.{forget}
 use Rattle.headline.specs.Items.{asked_at}
 use Rattle.run_answers.specs.own_law.Answered.{EachCallIsAnswered}
 use Rattle.headline.specs.ItemActs.{HasRun, IsItsCall, IsOfCall}
@@ -163,13 +164,15 @@ module _ (e : Estate AnyNode) (count : ℕ) (event : Event) (happens : slice_get
       absurd (no_going its.going (makes_here n s wanted None nq (sym same) (asked n wanted b.asks nq) made))
   run_so q acts (AtOnce n wanted x refuses b calls items) among =
       absurd (refused x refuses (is_it client item a (Some n) x among).answer)
-  run_so q acts (GoesOn call at stays drains st) among =
+  run_so q acts (GoesOn call at stays drains here) among =
+      let st = forget client here in
       let end = ends_it a st among in
       let h = (each_has_run e).1 count client c (ap (node_named (moment e count)) named ∙ there) call at acts (call_in q) st in
       let same : h.0 ≡ item = one_number h.0 item (sym h.1.0 ∙ end.0) in
       subst (λ (i : ℕ). HasRun e client i (moment e count).acts acts None) same
       (subst (λ (o : Option Call). HasRun e client h.0 (moment e count).acts acts o) end.1 h.1.1)
-  run_so q acts (Begins {s = s} n wanted going same b free made stays drains st) among =
+  run_so q acts (Begins {s = s} n wanted going same b free made stays drains here) among =
+      let st = forget client here in
       let end = ends_it a st among in
       let nq : n ≡ item = one_number n item end.0 in
       let gq : going ≡ its.going = one_going going its.going (makes_here n s wanted (Some going) nq (sym same) (asked n wanted b.asks nq) made) in

@@ -14,6 +14,7 @@ use Rattle.client_running.specs.Blocks.{is_settled}
 use Rattle.client_running.specs.Running.{running_go_on, most_steps, run}
 use Rattle.client_serving.specs.declared.lasting.Lasting.{Lasting}
 use Rattle.client_serving.specs.declared.serving.Serving.{Serving}
+use Rattle.client_serving.specs.Flights.{held_at}
 use Rattle.client_serving.specs.Packets.{serving_take, on_tick}
 use Rattle.client_serving.specs.Sends.{Done, gives}
 use Rattle.log_owner.proofs.Behaving as behaving
@@ -43,6 +44,7 @@ use Rattle.wire_msg.specs.declared.packet.Do.{Do}
 use Rattle.wire_msg.specs.declared.packet.Do.TheVariants.{Begin, Deliver, Tick}
 use Rattle.wire_msg.specs.declared.packet.Packet.{Packet}
 use Rattle.xfs_base.proofs.Booleans.{by_test}
+use Rattle.xfs_base.specs.declared.block.BlockId.{BlockId}
 use Rattle.xfs_base.specs.declared.node.NodeId.{NodeId}
 use Rattle.xfs_base.specs.declared.node.NodeId.TheVariants as nodes
 use Rattle.xfs_base.specs.Steps.{saying, still}
@@ -51,8 +53,9 @@ use Rattle.run_answers.proofs.own_law.Filing.{acts_then, answered_are, behind_st
 use Rattle.run_answers.proofs.own_law.Moving.{HasLost, IsCalm, Went as Moved_so, comes, none_kept}
 use Rattle.run_answers.proofs.own_law.Running.{Stretched, going_runs, items_after, no_runs, open_runs, sync_runs}
 use Rattle.run_answers.specs.own_law.Events.{EachClientActsForItems}
-use Rattle.headline.specs.Calls.{Acts, CallHasItem, IsAnswerTo, IsBegun, IsRefusal, Stretch, SyncDrains, answered_so, call_in, open_in, told}
+use Rattle.headline.specs.Calls.{Acts, CallHasItem, EventStretch, IsAnswerTo, IsBegun, IsHeldSince, IsRefusal, Stretch, SyncDrains, answered_so, call_in, held_in, open_in, told}
 use Rattle.headline.specs.Calls.Acts.{Rests, Passes, AtOnce, GoesOn, Begins, Loses, Falls, Stops, Returns}
+use Rattle.headline.specs.Calls.EventStretch.{Awaits, Follows}
 use Rattle.headline.specs.Calls.Stretch.{Waits, Told}
 use Rattle.client_call.specs.Calls.{plan_answered}
 use Rattle.client_call.specs.declared.call.Plan.{Plan}
@@ -61,6 +64,7 @@ use Rattle.file_plan.specs.declared.block_call.BlockCall.TheVariants.{Sync}
 use Rattle.std.specs.List.{AllByRecursion}
 use Rattle.std.specs.Prelude.{map}
 use Rattle.serving_moves.proofs.item_moves.Keeping.{no_item}
+use Rattle.token_client.specs.declared.held.Held.{Held}
 use Rattle.token_client.specs.State.{dirty_in}
 use Rattle.version_model.specs.declared.act.Fall.{Fall}
 use Rattle.headline.specs.Items.{asked_at}
@@ -98,7 +102,7 @@ module _ (client : ℕ) where
       by None is = turned p what (still p) [] refl (Rests is is) sound
       by (Some call) is =
           turned p what (still p) [] refl
-          (GoesOn call is (λ new fact. refl) (λ one sync over. absurd (no_call call (sym over ∙ is))) (subst (Stretch client (open_in p) (On call) []) (sym is) (Waits refl refl))) sound
+          (GoesOn call is (λ new fact. refl) (λ one sync over. absurd (no_call call (sym over ∙ is))) (subst (EventStretch client (open_in p) (held_in p) (On call) []) (sym is) (Awaits refl refl))) sound
 
   -- a reading more or less leaves where a call stands
   pub reads_on : {item : Option ℕ} {acts : List Act} {after : Option Call} (call new : Call) → new.plan ≡ call.plan → new.step ≡ call.step
@@ -108,6 +112,15 @@ module _ (client : ℕ) where
       subst (λ (t : BlockCall). Stretch client item (On call) (told client t a ++ rest) after) (sym step)
       (Told a (subst (λ (t : BlockCall). IsAnswerTo t a) step fits)
       (subst (λ (p : Plan). Stretch client item (plan_answered p a) rest after) plan st))
+
+  -- and so it is in an event
+  event_on : {item : Option ℕ} {now : BlockId → Held} {acts : List Act} {after : Option Call} (call new : Call) → new.plan ≡ call.plan → new.step ≡ call.step
+      → EventStretch client item now (On new) acts after → EventStretch client item now (On call) acts after
+  event_on call new plan step (Awaits p q) = Awaits (p ∙ plan) (q ∙ step)
+  event_on {item} {now} {acts} {after} call new plan step (Follows {acts = rest} a fits since st) =
+      subst (λ (t : BlockCall). EventStretch client item now (On call) (told client t a ++ rest) after) (sym step)
+      (Follows a (subst (λ (t : BlockCall). IsAnswerTo t a) step fits) (subst (λ (t : BlockCall). IsHeldSince now t a rest) step since)
+      (subst (λ (p : Plan). EventStretch client item now (plan_answered p a) rest after) plan st))
 
   -- ---- while it serves
 
@@ -169,10 +182,12 @@ module _ (client : ℕ) where
         drains plan step over =
             sync_drains d.state new.0 new.1 ((stays.1.1.0 ∙ ap (λ (x : Call). x.plan) one) ∙ plan) ((stays.1.1.1 ∙ ap (λ (x : Call). x.step) one) ∙ step) over
 
-        same : Stretch client s.lasting.items.unanswered (On call) (its_acts me (run d.state).outs) (run d.state).state.call
+        same : EventStretch client s.lasting.items.unanswered (held_at (run d.state).state) (On call) (its_acts me (run d.state).outs) (run d.state).state.call
         same =
-            subst (λ (items : Items). Stretch client items.unanswered (On call) (its_acts me (run d.state).outs) (run d.state).state.call) c.kept.items
-            (reads_on call new.0 (stays.1.1.0 ∙ ap (λ (x : Call). x.plan) one) (stays.1.1.1 ∙ ap (λ (x : Call). x.step) one) st.acts)
+            subst
+            (λ (items : Items). EventStretch client items.unanswered (held_at (run d.state).state) (On call) (its_acts me (run d.state).outs) (run d.state).state.call)
+            c.kept.items
+            (event_on call new.0 (stays.1.1.0 ∙ ap (λ (x : Call). x.plan) one) (stays.1.1.1 ∙ ap (λ (x : Call). x.step) one) st.acts)
 
     lost_runs : HasLost me s d → Turned (Serves s) what (then_runs d)
     lost_runs l =

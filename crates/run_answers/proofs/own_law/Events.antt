@@ -14,6 +14,7 @@ use Rattle.xfs_base.proofs.Alls.{all_append}
 use Rattle.xfs_base.specs.declared.node.NodeId.{NodeId}
 use Rattle.xfs_base.specs.declared.node.NodeId.TheVariants as nodes
 use Rattle.run_answers.proofs.own_law.Single.{IsOwnCall, NoneOfBlocks, answers_none, call_for_item, call_own, going_for, no_such}
+use Rattle.run_answers.proofs.own_law.Whole.{forget}
 use Rattle.headline.specs.Items.{asked_at}
 use Rattle.headline.specs.Calls.{Acts, CallHasItem, Stretch, answered_so, call_in, open_in}
 use Rattle.headline.specs.Calls.Acts.{Rests, Passes, AtOnce, GoesOn, Begins, Loses, Falls, Stops, Returns}
@@ -43,10 +44,12 @@ module _ (client : ℕ) (works : List Work) where
   acts_for p what q sound owns its (Passes number wanted same b f made c o) a is among =
       none_for (act.Answered me number answer.Done ∷ []) (λ no. no, tt) a is among
   acts_for p what q sound owns its (AtOnce number wanted x refused b c o) a is among = none_for (act.Answered me number x ∷ []) (λ no. no, tt) a is among
-  acts_for p what q sound owns its {acts} (GoesOn call at stays drains st) a is among =
+  acts_for p what q sound owns its {acts} (GoesOn call at stays drains here) a is among =
+      let st = forget client here in
       let has = sound call at in
       (has.0, call_for_item client call (owns has.0 has.1 call at) (subst (λ (o : Option ℕ). Stretch client o (On call) acts (call_in q)) has.1 st) a is among)
-  acts_for p what q sound owns its {acts} (Begins {s = s} number wanted going same begun free made stays drains st) a is among =
+  acts_for p what q sound owns its {acts} (Begins {s = s} number wanted going same begun free made stays drains here) a is among =
+      let st = forget client here in
       let asks : asked_at works number ≡ wanted = ap (λ (ws : List Work). asked_at ws number) (sym its) ∙ begun.asks in
       (number, subst (λ (w : Option Work). IsFor client number w acts a) (sym asks) (going_for client going (call_own client s number wanted going made) st a is among))
   acts_for p what q sound owns its (Loses name c o) a is among =

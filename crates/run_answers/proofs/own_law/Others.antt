@@ -16,6 +16,7 @@ use Rattle.node_base.specs.declared.items.Items.{Items}
 use Rattle.node_base.specs.Effects.{acts_of}
 use Rattle.registry_node.specs.Events as registry
 use Rattle.serving_moves.proofs.item_moves.Cleaners.{cleaner_turned}
+use Rattle.serving_moves.proofs.item_moves.Keeping.{filing_aside}
 use Rattle.serving_moves.proofs.item_moves.Managers.{manager_turned}
 use Rattle.serving_moves.proofs.item_moves.Registries.{registry_turned}
 use Rattle.serving_moves.proofs.item_moves.Servers.{server_turned}
@@ -110,7 +111,7 @@ pub others_act : OthersActNone
 others_act (any.Client c) what is = absurd is
 others_act (any.Manager m) what is =
     bare_acts _ (manager.happens m what).outs
-    (event_bare Telling (λ a may. may) IsCount IsPrompt (managers.lasting_of m.phase).items (managers.lasting_of (manager.happens m what).state).items what
+    (event_bare Telling filing_aside IsCount IsPrompt (managers.lasting_of m.phase).items (managers.lasting_of (manager.happens m what).state).items what
     (manager.happens m what).outs (manager_turned m what).event)
 others_act (any.Server v) what is =
     bare_acts _ (server.takes v what).outs

@@ -9,6 +9,7 @@ use Rattle.client_call.specs.declared.call.Plan.TheVariants.{One}
 use Rattle.client_running.specs.Blocks.{Made, is_settled, blocks_make, blocks_sync}
 use Rattle.client_running.specs.Running.{Ran, running_go_on, if_goes, most_steps, ran, run, runs_call, run_once, run_upto}
 use Rattle.client_serving.specs.declared.serving.Serving.{Serving}
+use Rattle.client_serving.specs.Flights.{held_at}
 use Rattle.client_serving.specs.Follow.{serving_seal}
 use Rattle.client_serving.specs.Sends.{Done, gives}
 use Rattle.file_plan.specs.declared.block_call.BlockAnswer.{BlockAnswer}
@@ -20,15 +21,16 @@ use Rattle.node_base.specs.declared.effects.Effect.{Effect}
 use Rattle.node_base.specs.declared.effects.Effect.TheVariants.{Does}
 use Rattle.node_base.specs.declared.items.Items.{Items}
 use Rattle.serving_moves.specs.client_moves.Moves.{Fits}
-use Rattle.headline.specs.Calls.{IsAnswerTo, Stretch, told}
+use Rattle.headline.specs.Calls.{EventStretch, IsAnswerTo, IsHeldSince, told}
 use Rattle.version_model.specs.declared.act.Act.{Act}
 use Rattle.version_model.specs.declared.act.Act.TheVariants as act
 use Rattle.xfs_base.specs.declared.node.NodeId.{NodeId}
 use Rattle.xfs_base.specs.declared.node.NodeId.TheVariants as nodes
 use Rattle.xfs_base.specs.Steps.{saying, still}
 use Rattle.run_answers.proofs.own_law.Filing.{acts_then, answered_are, its_acts}
+use Rattle.run_answers.proofs.own_law.Holding.{made_after, on_keeps, since_kept}
 use Rattle.run_answers.proofs.own_law.Moving.{HasMade, has_made, tells_acts}
-use Rattle.headline.specs.Calls.Stretch.{Waits, Told, Finishes}
+use Rattle.headline.specs.Calls.EventStretch.{Awaits, Follows, Concludes}
 
 -- the items behind: while a call is open its item is
 abbrev pub items_after : Option Call → Items → Items
@@ -88,7 +90,7 @@ module _ (client : ℕ) where
   pub record Stretched (s : Serving) (g : Going) (d : Done) : Type 0 where
     pub number : d.state.lasting.number ≡ client
     pub items : d.state.lasting.items ≡ items_after d.state.call s.lasting.items
-    pub acts : Stretch client s.lasting.items.unanswered g (its_acts (nodes.Client client) d.outs) d.state.call
+    pub acts : EventStretch client s.lasting.items.unanswered (held_at d.state) g (its_acts (nodes.Client client) d.outs) d.state.call
 
   abbrev me : NodeId
   me = nodes.Client client
@@ -99,15 +101,16 @@ module _ (client : ℕ) where
 
   -- the acts that are told first
   told_then : (s t : Serving) (call : Call) (a : BlockAnswer) (outs : List Effect) (d : Done) → IsAnswerTo call.step a
-      → its_acts me outs ≡ told client call.step a → t.lasting.items ≡ s.lasting.items → Stretched t (plan_answered call.plan a) d
-      → Stretched s (On call) (saying outs d)
-  told_then s t call a outs d fits acted same st = record {
+      → its_acts me outs ≡ told client call.step a → t.lasting.items ≡ s.lasting.items → IsHeldSince (held_at d.state) call.step a (its_acts me d.outs)
+      → Stretched t (plan_answered call.plan a) d → Stretched s (On call) (saying outs d)
+  told_then s t call a outs d fits acted same since st = record {
     number = st.number;
     items = st.items ∙ ap (items_after d.state.call) same;
-    acts = subst (λ (acts : List Act). Stretch client s.lasting.items.unanswered (On call) acts d.state.call)
+    acts = subst (λ (acts : List Act). EventStretch client s.lasting.items.unanswered (held_at d.state) (On call) acts d.state.call)
         (ap (λ (acts : List Act). acts ++ its_acts me d.outs) (sym acted) ∙ sym (acts_then me outs d.outs))
-        (Told a fits
-        (subst (λ (items : Items). Stretch client items.unanswered (plan_answered call.plan a) (its_acts me d.outs) d.state.call) same st.acts));
+        (Follows a fits since
+        (subst (λ (items : Items). EventStretch client items.unanswered (held_at d.state) (plan_answered call.plan a) (its_acts me d.outs) d.state.call) same
+        st.acts));
   }
 
   stretched : (k : ℕ) (s : Serving) (g : Going) → s.lasting.number ≡ client → s.call ≡ None → Stretched s g (on_and_runs k s g)
@@ -124,11 +127,11 @@ module _ (client : ℕ) where
       now = record {
         number = its;
         items = subst (λ (call : Option Call). t.lasting.items ≡ items_after call s.lasting.items) (sym none) refl;
-        acts = subst (λ (call : Option Call). Stretch client s.lasting.items.unanswered (Ends a) (its_acts me (outs ++ [])) call) (sym none)
-            (subst (λ (acts : List Act). Stretch client s.lasting.items.unanswered (Ends a) acts None)
-            (sym (ap (its_acts me) (append-nil outs) ∙ answered_are me s.lasting.items.unanswered a)) (Finishes a));
+        acts = subst (λ (call : Option Call). EventStretch client s.lasting.items.unanswered (held_at t) (Ends a) (its_acts me (outs ++ [])) call) (sym none)
+            (subst (λ (acts : List Act). EventStretch client s.lasting.items.unanswered (held_at t) (Ends a) acts None)
+            (sym (ap (its_acts me) (append-nil outs) ∙ answered_are me s.lasting.items.unanswered a)) (Concludes a));
       }
-  stretched zero s (On call) its none = record { number = its; items = refl; acts = Waits refl refl }
+  stretched zero s (On call) its none = record { number = its; items = refl; acts = Awaits refl refl }
   stretched (suc k) s (On call) its none = by (λ t g numbered over. stretched k t g numbered over) m.answer refl
     where
       t : Serving
@@ -155,13 +158,15 @@ module _ (client : ℕ) where
       by rest None is = subst (Stretched s (On call)) (sym (upto None is)) (record {
         number = made.kept.number ∙ its;
         items = made.kept.items;
-        acts = subst (λ (acts : List Act). Stretch client s.lasting.items.unanswered (On call) acts (Some call))
-            (sym (ap (its_acts me) (append-nil m.done.outs) ∙ (made.acts ∙ ap (tells_acts me s.lasting.number call.step) is))) (Waits refl refl);
+        acts = subst (λ (acts : List Act). EventStretch client s.lasting.items.unanswered (held_at (record m.done.state { call = Some call })) (On call) acts (Some call))
+            (sym (ap (its_acts me) (append-nil m.done.outs) ∙ (made.acts ∙ ap (tells_acts me s.lasting.number call.step) is))) (Awaits refl refl);
       })
       by rest (Some a) is =
           subst (Stretched s (On call)) (sym (upto (Some a) is ∙ again))
           (told_then s m.done.state call a m.done.outs (on_and_runs k m.done.state (plan_answered call.plan a)) (subst (Fits call.step) is made.fits)
           (made.acts ∙ (ap (tells_acts me s.lasting.number call.step) is ∙ ap (λ (n : ℕ). told n call.step a) its)) made.kept.items
+          (since_kept client m.done.state (on_and_runs k m.done.state (plan_answered call.plan a)) call.step a (made_after u call.step a is)
+          (on_keeps client k m.done.state (plan_answered call.plan a) (made.kept.number ∙ its)))
           (rest m.done.state (plan_answered call.plan a) (made.kept.number ∙ its) made.none))
         where
           g : Done

@@ -38,7 +38,7 @@ use Rattle.run_answers.proofs.act_law.Runs.{begins_next, moment_first, moment_pa
 use Rattle.run_answers.proofs.once_law.Runs.{Known, node_known}
 use Rattle.run_answers.proofs.own_law.Others.{others_act}
 use Rattle.run_answers.proofs.own_law.Runs.{runs_act}
-use Rattle.run_answers.proofs.own_law.Whole.{IsOthers, blocks_then, differs, its_stretch, no_clients, none_by, of_items_same, stretch_then}
+use Rattle.run_answers.proofs.own_law.Whole.{IsOthers, blocks_then, differs, forget, its_stretch, no_clients, none_by, of_items_same, stretch_then}
 use Rattle.headline.specs.Items.{asked_at}
 use Rattle.headline.specs.Calls.{Acts, EventActs, HasFallen, IsClients, Stretch, call_in, of_items, open_in}
 use Rattle.headline.specs.Calls.Acts.{Rests, Passes, AtOnce, GoesOn, Begins, Loses, Falls, Stops, Returns}
@@ -167,7 +167,8 @@ module _ (e : Estate AnyNode) where
       then_open q acts are (AtOnce number wanted a refused begun calls items) call fact =
           let so = beside client w.acts new c.phase (sym (of_items_same client new) ∙ ap (blocks_by client) are) was call (sym calls ∙ fact) in
           (so.0, (items ∙ so.1.0, so.1.1))
-      then_open q acts are (GoesOn old at stays drains st) call fact =
+      then_open q acts are (GoesOn old at stays drains here) call fact =
+          let st = forget client here in
           let had = was old at in
           let on : Stretch client (Some had.0) (On old) acts (Some call) =
           subst (λ (o : Option Call). Stretch client (Some had.0) (On old) acts o) fact
@@ -175,7 +176,8 @@ module _ (e : Estate AnyNode) where
             had.0,
             (stays call fact ∙ had.1.0, more_run client had.0 w.acts new acts old (Some call) had.1.1 (its acts call (Some had.0) (On old) are on) on),
           )
-      then_open q acts are (Begins {s = s} item wanted going same begun free made stays drains st) call fact =
+      then_open q acts are (Begins {s = s} item wanted going same begun free made stays drains here) call fact =
+          let st = forget client here in
           let run : Stretch client (Some item) going acts (Some call) =
           subst (λ (o : Option Call). Stretch client (Some item) going acts o) fact st in
           (item, (stays call fact, by wanted begun.asks made (its acts call (Some item) going are run) run))

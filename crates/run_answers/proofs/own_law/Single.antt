@@ -56,8 +56,6 @@ pub among_items : (a : Act) → IsOfBlocks a → (acts : List Act) → In a acts
 among_items a is [] among = among
 among_items a is (act.Filed seg ∷ acts) (inl e) = absurd (subst IsOfBlocks e is)
 among_items a is (act.Filed seg ∷ acts) (inr among) = among_items a is acts among
-among_items a is (act.Dropped seg ∷ acts) (inl e) = absurd (subst IsOfBlocks e is)
-among_items a is (act.Dropped seg ∷ acts) (inr among) = among_items a is acts among
 among_items a is (act.Lost node seg ∷ acts) (inl e) = absurd (subst IsOfBlocks e is)
 among_items a is (act.Lost node seg ∷ acts) (inr among) = among_items a is acts among
 among_items a is (_ ∷ acts) (inl e) = inl e

@@ -11,17 +11,27 @@ use Rattle.file_plan.specs.declared.block_call.BlockAnswer.TheVariants.{Got, Cha
 use Rattle.file_plan.specs.declared.block_call.BlockAnswer.TheVariants.{Put as Written}
 use Rattle.file_plan.specs.declared.block_call.BlockCall.{BlockCall}
 use Rattle.file_plan.specs.declared.block_call.BlockCall.TheVariants.{Get, Put, PutAt, Sync}
-use Rattle.headline.specs.Calls.{IsClients, Stretch, of_items, told}
+use Rattle.headline.specs.Calls.{EventStretch, IsClients, Stretch, of_items, told}
+use Rattle.token_client.specs.declared.held.Held.{Held}
 use Rattle.version_model.specs.declared.act.Act.{Act}
 use Rattle.version_model.specs.declared.act.Act.TheVariants as act
 use Rattle.xfs_base.proofs.Booleans.{equal_itself}
+use Rattle.xfs_base.specs.declared.block.BlockId.{BlockId}
 use Rattle.run_answers.proofs.own_law.Clients.{reads_on}
-use Rattle.headline.specs.Calls.Stretch.{Waits, Told}
+use Rattle.headline.specs.Calls.EventStretch.{Awaits, Follows, Concludes}
+use Rattle.headline.specs.Calls.Stretch.{Waits, Told, Finishes}
 use Rattle.headline.specs.ItemActs.{blocks_by, is_block_of}
 
 -- ---- stretches, one behind another
 
 module _ (client : ℕ) where
+  -- one of an event is one
+  pub forget : {item : Option ℕ} {now : BlockId → Held} {going : Going} {acts : List Act} {after : Option Call} → EventStretch client item now going acts after
+      → Stretch client item going acts after
+  forget (Awaits plan step) = Waits plan step
+  forget (Follows a fits since st) = Told a fits (forget st)
+  forget (Concludes a) = Finishes a
+
   pub stretch_then : {item : Option ℕ} {going : Going} {xs ys : List Act} {call : Call} {after : Option Call} → Stretch client item going xs (Some call)
       → Stretch client item (On call) ys after → Stretch client item going (xs ++ ys) after
   stretch_then {call = call} (Waits {call = old} plan step) more = reads_on client old call plan step more

@@ -122,12 +122,12 @@ cleaners_own (work.Clean count) its = tt
 cleaners_own _ its = absurd cc
 
 module _ (e : Estate AnyNode) where
-  abbrev works : NodeId → List Work
+  abbrev pub works : NodeId → List Work
   works name = items_of e.script.lines name
 
   -- ---- the open item of each node
 
-  abbrev Stands : NodeId → AnyNode → Type 0
+  abbrev pub Stands : NodeId → AnyNode → Type 0
   Stands name (any.Client c) = client.Asks (works name) c.phase
   Stands name (any.Manager m) = manager.Asks (works name) m.phase
   Stands name (any.Server v) = server.Asks (works name) v
@@ -216,7 +216,7 @@ module _ (e : Estate AnyNode) where
 
   -- ---- runs
 
-  stands_at : (count : ℕ) (name : NodeId) (x : AnyNode) → node_named (moment e count) name ≡ Some x → Stands name x
+  pub stands_at : (count : ℕ) (name : NodeId) (x : AnyNode) → node_named (moment e count) name ≡ Some x → Stands name x
   stands_at = each_stands Stands e starts (λ count event happens x was s. (turns count event x was s).stands)
 
   module _ (count : ℕ) (event : Event) (happens : slice_get e.events count ≡ Some event) (node : NodeId) (item : ℕ) (a : Answer) where

@@ -1,6 +1,6 @@
 -- Each event of the cleaner: where it answers that a segment is lost, it has said so before, and the item had begun; and it says so only while it scans its
 -- log.
-use Rattle.std.proofs.Common.{[]}
+use Rattle.std.proofs.Common.{None}
 use Rattle.cleaner_node.specs.CleanerEvents.{Went_to, lasting_of, takes}
 use Rattle.cleaner_node.specs.declared.cleaner.Cleaner.{Cleaner}
 use Rattle.cleaner_node.specs.declared.cleaner.Phase.{Phase}
@@ -29,7 +29,7 @@ items_in p = (lasting_of p).items
 -- the items are those before, of which one more may have begun, and what it answers to be lost it has said to be lost, of an item that had begun
 pub record Turned (p : Phase) (what : Do) (w : Went_to) : Type 0 where
   pub items : Goes (items_in p) (items_in w.state) what
-  pub told : Told (IsBegunBy (items_in p) what) [] w.outs
+  pub told : Told (IsBegunBy (items_in p) what) None w.outs
   pub tells : (name : SegName) → In (Lose name) w.outs → MayTell (cleaner_losses p)
 
 cleaners_not_lost : (a : Answer) → IsCleaners a → NotLost a

@@ -1,6 +1,6 @@
 -- Each event of a client: where it answers that a segment is lost, it has said so before, and the item had begun; and it says so only while it scans its log,
 -- or serves.
-use Rattle.std.proofs.Common.{◌≡◌, [], Option, Some, None}
+use Rattle.std.proofs.Common.{◌≡◌, Option, Some, None}
 use Rattle.client_node.specs.declared.client.Client.{Client}
 use Rattle.client_node.specs.declared.phase.Phase.{Phase}
 use Rattle.client_node.specs.declared.phase.Phase.TheVariants.{Down, Opening, Serving as Serves}
@@ -34,7 +34,7 @@ pub record Turned (p : Phase) (what : Do) (w : Went_to) : Type 0 where
   pub well : GoesWell w.state
   pub number : (lasting_of w.state).number ≡ (lasting_of p).number
   pub items : Goes (items_in p) (items_in w.state) what
-  pub told : Told (IsBegunBy (items_in p) what) [] w.outs
+  pub told : Told (IsBegunBy (items_in p) what) None w.outs
   pub tells : (name : SegName) → In (Lose name) w.outs → MayTell (client_losses p)
 
 -- ---- the open call

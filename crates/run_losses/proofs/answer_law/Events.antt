@@ -1,5 +1,5 @@
 -- What an event of a node answers, read off its moves: that a segment is lost only of an item that had begun, and behind the word that it is lost.
-use Rattle.std.proofs.Common.{◌≡◌, ℕ, List, [], ◌∷◌, ◌++◌, Some, inl, inr, ap, ◌∙◌}
+use Rattle.std.proofs.Common.{◌≡◌, ℕ, List, ◌∷◌, ◌++◌, Some, None, inl, inr, ap, ◌∙◌}
 use Rattle.node_base.specs.Beginning.{answers_unanswered, items_begin, next_item, items_wait}
 use Rattle.node_base.specs.declared.effects.Effect.{Effect}
 use Rattle.node_base.specs.declared.effects.Effect.TheVariants.{Send, Answer as Answers, Lose, Does}
@@ -40,37 +40,37 @@ module _ (losses : Losses) (J : Answer → Type 0) (ends : (a : Answer) → J a 
   plain_all : (outs : List Effect) → moves.AllPlain losses outs → AllPlain outs
   plain_all outs plain = all_weaker (moves.IsPlain losses) IsPlain plain_one outs plain
 
-  move_told : (before after : Items) (outs : List Effect) → Move losses J before outs after → Told (IsOpen before) [] outs
-  move_told before after outs (Stays stay plain) = told_plain (IsOpen before) [] outs (plain_all outs plain)
+  move_told : (before after : Items) (outs : List Effect) → Move losses J before outs after → Told (IsOpen before) None outs
+  move_told before after outs (Stays stay plain) = told_plain (IsOpen before) None outs (plain_all outs plain)
   move_told before after outs (Ends a so) =
-      told_plain (IsOpen before) [] (answers_unanswered before.unanswered a) (answers_plain before.unanswered a (ends a so))
-  move_told before after outs (Loses name said may plain among) =
-      told_behind (IsOpen before) name before.unanswered (λ n fact. fact) [] said (plain_all said plain) among
+      told_plain (IsOpen before) None (answers_unanswered before.unanswered a) (answers_plain before.unanswered a (ends a so))
+  move_told before after outs (Loses name said may plain ends) =
+      told_behind (IsOpen before) name before.unanswered (λ n fact. fact) None said (plain_all said plain) ends
 
-  moves_told : (before after : Items) (outs : List Effect) → Moves losses J before outs after → Told (IsOpen before) [] outs
+  moves_told : (before after : Items) (outs : List Effect) → Moves losses J before outs after → Told (IsOpen before) None outs
   moves_told before after outs (Last move) = move_told before after outs move
   moves_told before after outs (Then between now more move rest) =
-      told_append (IsOpen before) [] now more (move_told before between now move)
-      (told_of (IsOpen between) (IsOpen before) (moves_stay losses J before between now (Last move)).waits [] more (moves_told between after more rest))
+      told_append (IsOpen before) None now more (move_told before between now move)
+      (told_of (IsOpen between) (IsOpen before) (moves_stay losses J before between now (Last move)).waits None more (moves_told between after more rest))
 
   module _ (before : Items) (what : Do) where
     begun_told : (after : Items) (number : ℕ) (outs : List Effect) → what ≡ Begin → next_item before ≡ Some number
-        → Begun losses J IsPrompt (items_begin before) number outs after → Told (IsBegunBy before what) [] outs
+        → Begun losses J IsPrompt (items_begin before) number outs after → Told (IsBegunBy before what) None outs
     begun_told after number outs is next (AtOnce a first more so plain rest) =
-        told_plain (IsBegunBy before what) [] (first ++ Answers number a ∷ more)
+        told_plain (IsBegunBy before what) None (first ++ Answers number a ∷ more)
         (all_append IsPlain first (Answers number a ∷ more) (plain_all first plain) (prompt_not_lost a so, plain_all more rest))
     begun_told after number outs is next (Waits made) =
-        told_of (IsOpen (items_wait (items_begin before) number)) (IsBegunBy before what) (λ n fact. inr (is, next ∙ ap Some (one_number number n fact))) [] outs
+        told_of (IsOpen (items_wait (items_begin before) number)) (IsBegunBy before what) (λ n fact. inr (is, next ∙ ap Some (one_number number n fact))) None outs
         (moves_told (items_wait (items_begin before) number) after outs made)
 
     -- what it answers to be lost it has said to be lost, of an item that had begun
-    pub event_told : (after : Items) (outs : List Effect) → Event losses J IsPrompt before what outs after → Told (IsBegunBy before what) [] outs
+    pub event_told : (after : Items) (outs : List Effect) → Event losses J IsPrompt before what outs after → Told (IsBegunBy before what) None outs
     event_told after outs (GoesOn made) =
-        told_of (IsOpen before) (IsBegunBy before what) (λ n fact. inl fact) [] outs (moves_told before after outs made)
+        told_of (IsOpen before) (IsBegunBy before what) (λ n fact. inl fact) None outs (moves_told before after outs made)
     event_told after outs (Idles is) = tt
     event_told after outs (Begins number is next made) = begun_told after number outs is next made
     event_told after outs (Cuts number first more is next falls plain rest) =
-        told_plain (IsBegunBy before what) [] (first ++ (answers_unanswered (items_begin before).unanswered answer.Cut ++ Answers number answer.Done ∷ more))
+        told_plain (IsBegunBy before what) None (first ++ (answers_unanswered (items_begin before).unanswered answer.Cut ++ Answers number answer.Done ∷ more))
         (all_append IsPlain first (answers_unanswered (items_begin before).unanswered answer.Cut ++ Answers number answer.Done ∷ more) (plain_all first plain)
         (all_append IsPlain (answers_unanswered (items_begin before).unanswered answer.Cut) (Answers number answer.Done ∷ more)
         (answers_plain (items_begin before).unanswered answer.Cut tt) (tt, plain_all more rest)))

@@ -38,7 +38,7 @@ use Rattle.run_losses.proofs.answer_law.Clients as clients
 use Rattle.run_losses.proofs.answer_law.Others.{others_say_none}
 use Rattle.run_losses.proofs.answer_law.Telling.{node_so, none_said}
 use Rattle.run_losses.specs.answer_law.Answers.{IsBegunBy}
-use Rattle.headline.specs.Losses.{LossesAreSaid, answers_lost}
+use Rattle.headline.specs.Losses.{LossesAreSaid, NoneIsLost, answers_lost}
 use Rattle.run_losses.specs.answer_law.Calls.{GoesWell}
 use Rattle.run_losses.specs.answer_law.Runs.{LostAnswersAreSaid}
 
@@ -139,6 +139,15 @@ module _ (past : List Event) (event : Event) where
   step_begun (any.Server v) s node item name fact = absurd (others_say_none.servers v (what_of event) node item name fact)
   step_begun (any.Registry r) s node item name fact = absurd (others_say_none.registry r (what_of event) node item name fact)
 
+  -- a manager answers no item so
+  step_none : (j : ℕ) → node_of event ≡ nodes.Manager j → (x : AnyNode) → Stands (node_of event) (begins_of (node_of event) past) x
+      → NoneIsLost (any_step x (what_of event)).acts
+  step_none j is (any.Client c) s = absurd (let clash : nodes.Client (lasting_of c.phase).number ≡ nodes.Manager j = s.0 ∙ is in cc)
+  step_none j is (any.Manager m) s = others_say_none.managers m (what_of event)
+  step_none j is (any.Server v) s = others_say_none.servers v (what_of event)
+  step_none j is (any.Cleaner c) s = absurd (let clash : nodes.Cleaner ≡ nodes.Manager j = s.0 ∙ is in cc)
+  step_none j is (any.Registry r) s = others_say_none.registry r (what_of event)
+
   -- all stand so then
   module _ (w : World AnyNode) (all : AllStand w.cluster past w.nodes) where
     here : (place : ℕ) (x : AnyNode) → place_of w.cluster (node_of event) ≡ Some place → slice_get w.nodes place ≡ Some x
@@ -173,6 +182,12 @@ module _ (past : List Event) (event : Event) where
         (subst Begun (sym (none_after w.acts)) (λ node item name fact. absurd fact))
         (λ place x clock at fact. subst Begun (sym (done_after w.acts (any_step x (what_of event)).acts)) (step_begun x (here place x at fact)))
 
+    event_none : (j : ℕ) → node_of event ≡ nodes.Manager j → NoneIsLost (acts_in w event)
+    event_none j is =
+        next_keeps any_step (λ xs sent acts. NoneIsLost (drop (length w.acts) acts)) w event
+        (subst NoneIsLost (sym (none_after w.acts)) (λ node item name fact. absurd fact))
+        (λ place x clock at fact. subst NoneIsLost (sym (done_after w.acts (any_step x (what_of event)).acts)) (step_none j is x (here place x at fact)))
+
 -- ---- runs
 
 abbrev WorldStands : List Event → World AnyNode → Type 0
@@ -196,6 +211,10 @@ module _ (e : Estate AnyNode) where
 pub client_stands : (e : Estate AnyNode) (count c : ℕ) (node : Client) → node_named (moment e count) (nodes.Client c) ≡ Some (any.Client node)
     → (nodes.Client (lasting_of node.phase).number ≡ nodes.Client c) × GoesWell node.phase
 client_stands e count c node fact = (let s = stands_at e count (nodes.Client c) (any.Client node) fact in (s.0, s.1.0))
+
+-- in no event of a manager an item is answered so
+pub managers_answer_none : (e : Estate AnyNode) (count : ℕ) (event : Event) (j : ℕ) → node_of event ≡ nodes.Manager j → NoneIsLost (acts_in (moment e count) event)
+managers_answer_none e count event j is = event_none (take count e.events) event (moment e count) (stands_at e count) j is
 
 pub runs_say : LostAnswersAreSaid
 runs_say e = record {

@@ -101,7 +101,7 @@ cleaner_scans (cleaner_phase.Serving e) may = absurd may
 -- what a node acts to be lost, where it answers no item so
 plain_says : (me node : NodeId) (name : SegName) (outs : List Effect) → AllPlain outs → In (act.Lost node name) (acts_of me outs)
     → SaysLost (λ number. ⊥) me node name outs
-plain_says me node name outs plain fact = says_lost (λ number. ⊥) me node name [] outs (told_plain (λ number. ⊥) [] outs plain) fact
+plain_says me node name outs plain fact = says_lost (λ number. ⊥) me node name None outs (told_plain (λ number. ⊥) None outs plain) fact
 
 -- ---- the item of a client that says so
 
@@ -169,7 +169,7 @@ module _ (laws : NodeLaws) (e : Estate AnyNode) (setup : IsSetup e.script.setup)
         let turned : clients.Turned node.phase what (takes node what) = client_turned node what its.1 in
         let me = nodes.Client (lasting_of node.phase).number in
         let says : SaysLost (IsBegunBy (clients.items_in node.phase) what) me acting name (takes node what).outs =
-        says_lost (IsBegunBy (clients.items_in node.phase) what) me acting name [] (takes node what).outs turned.told fact in (
+        says_lost (IsBegunBy (clients.items_in node.phase) what) me acting name None (takes node what).outs turned.told fact in (
           says.own ∙ its.0,
           (
             there,
@@ -187,7 +187,7 @@ module _ (laws : NodeLaws) (e : Estate AnyNode) (setup : IsSetup e.script.setup)
         let outs = (cleaning.takes node.peers node.phase what).outs in
         let turned : cleaners.Turned node.phase what (cleaning.takes node.peers node.phase what) = cleaner_turned node what in
         let says : SaysLost (IsBegunBy (cleaners.items_in node.phase) what) nodes.Cleaner acting name outs =
-        says_lost (IsBegunBy (cleaners.items_in node.phase) what) nodes.Cleaner acting name [] outs turned.told fact in (
+        says_lost (IsBegunBy (cleaners.items_in node.phase) what) nodes.Cleaner acting name None outs turned.told fact in (
           says.own,
           ap (λ o. is_some (scan_of o)) (named nodes.Cleaner (any.Cleaner node) stood) ∙ cleaner_scans node.phase (turned.tells name says.among),
         )

@@ -11,8 +11,8 @@ use Rattle.registry_node.specs.Events.{registry_step}
 use Rattle.store_nodes.specs.ServerEvents.{server_step}
 use Rattle.wire_msg.specs.declared.packet.Do.{Do}
 use Rattle.world_base.specs.declared.estate.Estate.{Estate}
-use Rattle.run_losses.specs.answer_law.Answers.{NoneIsLost, SaysLosses}
-use Rattle.headline.specs.Losses.{LostAnswersEarned}
+use Rattle.run_losses.specs.answer_law.Answers.{SaysLosses}
+use Rattle.headline.specs.Losses.{LostAnswersEarned, NoneIsLost}
 
 -- The cleaner says what is lost before it answers so, in each event.
 abbrev pub TheCleanerSays : Type 0

@@ -1,6 +1,6 @@
 -- What a client that serves makes of its items for what comes, for time and for a call on blocks, read off its moves: it answers the open item only where a
 -- segment is lost.
-use Rattle.std.proofs.Common.{◌≡◌, List, Option, Some, None, [], ◌∷◌, inl, ℕ, refl, sym, subst}
+use Rattle.std.proofs.Common.{◌≡◌, List, Option, Some, None, [], ◌∷◌, ℕ, refl, sym, subst}
 use Rattle.client_running.specs.Blocks.{blocks_make}
 use Rattle.client_serving.specs.declared.serving.Serving.{Serving}
 use Rattle.client_serving.specs.Follow.{serving_seal}
@@ -59,7 +59,7 @@ loses_goes : (s : Serving) (block : BlockId) (name : SegName) → Goes s (loses 
 unfolding loses
 loses_goes s block name = record {
   calls = no_call s.call;
-  does = record { its_number = refl; moves = Last (Loses name (Lose name ∷ []) tt (tt, tt) (inl refl)) };
+  does = record { its_number = refl; moves = Last (Loses name (Lose name ∷ []) tt (tt, tt) ([], refl)) };
 }
 
 both_go : (s : Serving) (d x : Done) → Goes s d → Goes d.state x → Goes s (saying d.outs x)

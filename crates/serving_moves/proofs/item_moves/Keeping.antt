@@ -19,7 +19,7 @@ use Rattle.xfs_base.proofs.Alls.{all_append, all_map, all_weaker}
 use Rattle.xfs_base.proofs.Booleans.{by_test}
 use Rattle.xfs_base.specs.declared.segment.SegName.{SegName}
 use Rattle.xfs_base.specs.Steps.{Stepped, saying, steps, still}
-use Rattle.serving_moves.specs.item_moves.Moves.{AllPlain, Begun, IsAside, IsSilent, MayAct, Event, IsPlain, IsPrompt, ItemsStay, Move, Moves, Losses}
+use Rattle.serving_moves.specs.item_moves.Moves.{AllPlain, Begun, IsAside, IsFiling, IsSilent, MayAct, Event, IsPlain, IsPrompt, ItemsStay, Move, Moves, Losses}
 use Rattle.serving_moves.proofs.item_moves.Moves.{IsBusy}
 use Rattle.version_model.specs.declared.act.Act.{Act}
 use Rattle.version_model.specs.declared.act.Act.TheVariants as act
@@ -72,10 +72,14 @@ aside_silent (act.Filed seg) aside = tt
 aside_silent (act.Dropped seg) aside = tt
 aside_silent _ aside = absurd aside
 
+pub filing_aside : (a : Act) → IsFiling a → IsAside a
+filing_aside (act.Filed seg) filing = tt
+filing_aside _ filing = absurd filing
+
 -- whatever it may act answers nothing
 pub may_silent : (losses : Losses) (a : Act) → MayAct losses a → IsSilent a
 may_silent Silent a may = aside_silent a may
-may_silent Telling a may = aside_silent a may
+may_silent Telling a may = aside_silent a (filing_aside a may)
 may_silent Reading a may = aside_silent a may
 may_silent Answering a may = may
 may_silent Returning a may = may

@@ -1,5 +1,5 @@
--- The opening of a log answers no item, and where it ends because a segment is lost, it says so; so what it makes of the items of its node.
-use Rattle.std.proofs.Common.{ℕ, List, [], ◌∷◌, ◌++◌, Option, Some, None, inl, refl}
+-- The opening of a log answers no item, and where it ends because a segment is lost, it says so last; so what it makes of the items of its node.
+use Rattle.std.proofs.Common.{ℕ, List, [], ◌∷◌, ◌++◌, append_assoc, Option, Some, None, inl, refl, sym, ap, subst, ◌∙◌}
 use Rattle.client_log.specs.declared.input.In.{In as LogIn}
 use Rattle.client_log.specs.declared.input.In.TheVariants as log_in
 use Rattle.client_log.specs.Transition as log
@@ -46,7 +46,7 @@ use Rattle.serving_moves.proofs.item_moves.Keeping.{all_plain_more, all_returnin
 use Rattle.node_moves.proofs.OpeningWalk.{Any, Walk, packet_so, tick_so}
 use Rattle.serving_moves.proofs.item_moves.Settling.{packet_settles, stage_plain, tick_settles}
 use Rattle.serving_moves.specs.item_moves.Events.{client_log_losses, log_losses}
-use Rattle.serving_moves.specs.item_moves.Moves.{AllPlain, IsAside, IsPlain, MayAnswer, Moves, Losses}
+use Rattle.serving_moves.specs.item_moves.Moves.{AllPlain, EndsInLoss, IsAside, IsPlain, MayAnswer, Moves, Losses}
 use Rattle.serving_moves.specs.item_moves.Moves.Move.{Stays, Ends, Loses}
 use Rattle.serving_moves.specs.item_moves.Moves.Moves.{Last, Then}
 use Rattle.serving_moves.specs.item_moves.Moves.Losses.{Reading, Answering}
@@ -71,11 +71,11 @@ behaves_plain owner w b = all_plain_more Reading w.effects (behaves_aside owner 
 
 -- ---- it says what is lost
 
--- where it ends because a segment is lost, that is among what is said
+-- where it ends because a segment is lost, that is the last that is said
 abbrev pub SaysLoss : Progress → List Effect → Type 0
 SaysLoss (progress.Opening o) outs = Unit {0}
 SaysLoss (progress.Opened o) outs = Unit {0}
-SaysLoss (progress.Lost name) outs = In (Lose name) outs
+SaysLoss (progress.Lost name) outs = EndsInLoss name outs
 
 abbrev WentSo : Went → Type 0
 WentSo w = SaysLoss w.progress w.effects
@@ -89,7 +89,7 @@ said_after outs m so = by m.state m.outs so
     by : (p : Progress) (more : List Effect) → SaysLoss p more → SaysLoss p (outs ++ more)
     by (progress.Opening o) more h = tt
     by (progress.Opened o) more h = tt
-    by (progress.Lost name) more h = in_behind (Lose name) outs more h
+    by (progress.Lost name) more h = (outs ++ h.0, ap (λ (xs : List Effect). outs ++ xs) h.1 ∙ sym (append_assoc outs h.0 (Lose name ∷ [])))
 
 known_go_on_so : (k : Known) (s : Settling) (settled : Option End) → MovedSo (known_go_on k s settled)
 known_go_on_so k s None = tt
@@ -123,7 +123,7 @@ ended_so its low a p e (out.Hello own ∷ outs) ends = ended_so its low (asked_a
 ended_so its low a p e (out.Fence server ∷ outs) ends = ended_so its low a p e outs ends
 ended_so its low a p e (out.Fetch server name own ∷ outs) ends = ended_so its low (asked_as a p own) (drawn_for a p own) e outs ends
 ended_so its low a p e (out.Chain segments end prior ∷ outs) ends = ended_so its low a p _ outs (λ k s. settles_so k s _ k.maps.groups)
-ended_so its low a p e (out.Lost name ∷ outs) ends = ended_so its low a p _ outs (λ k s. inl refl)
+ended_so its low a p e (out.Lost name ∷ outs) ends = ended_so its low a p _ outs (λ k s. ([], refl))
 
 scans_on_so : (k : Known) (q : Questions) (s : Scanning) (i : ScanIn) → WentSo (scans_on k q s i)
 unfolding scans_on
@@ -155,7 +155,7 @@ walk = record {
 
 -- ---- what it makes of the items of its node
 
--- it answers nothing, says that a segment is lost only while it scans its log, and, where it ends so, among what is said
+-- it answers nothing, says that a segment is lost only while it scans its log, and, where it ends so, last of all
 pub record Goes (o : Opening) (w : Went) : Type 0 where
   pub plain : AllPlain (log_losses o.stage) w.effects
   pub says : SaysLoss w.progress w.effects
@@ -172,10 +172,14 @@ tick_goes o q = record {
   says = tick_so Any (λ k q at w. WentSo w) walk o q;
 }
 
+-- what is said last is said
+ends_in : (name : SegName) (outs : List Effect) → EndsInLoss name outs → In (Lose name) outs
+ends_in name outs ends = subst (In (Lose name)) (sym ends.1) (in_behind (Lose name) ends.0 (Lose name ∷ []) (inl refl))
+
 -- only one that scans its log says so
-pub may_answer : (at : Stage) (outs : List Effect) (name : SegName) → AllPlain (log_losses at) outs → In (Lose name) outs → MayAnswer (log_losses at)
-may_answer (stage.Scanning s) outs name plain among = tt
-may_answer (stage.Settling s) outs name plain among = absurd (no_loss_told outs name plain among)
+pub may_answer : (at : Stage) (outs : List Effect) (name : SegName) → AllPlain (log_losses at) outs → EndsInLoss name outs → MayAnswer (log_losses at)
+may_answer (stage.Scanning s) outs name plain ends = tt
+may_answer (stage.Settling s) outs name plain ends = absurd (no_loss_told outs name plain (ends_in name outs ends))
 
 -- the same of a client
 pub client_plain : (at : Stage) (outs : List Effect) → AllPlain (log_losses at) outs → AllPlain (client_log_losses at) outs
@@ -200,5 +204,5 @@ module _ (losses : Losses) (J : Answer → Type 0) (items : Items) (outs : List 
   is_back so more rest =
       Then items outs _ (Stays (same items) plain) (Then items more _ (Stays (same items) rest) (Last (Ends answer.Done so)))
 
-  pub is_lost : (name : SegName) → MayAnswer losses → In (Lose name) outs → Moves losses J items (outs ++ answers_unanswered items.unanswered (answer.Lost name)) (items_answer items)
-  is_lost name may among = Last (Loses name outs may plain among)
+  pub is_lost : (name : SegName) → MayAnswer losses → EndsInLoss name outs → Moves losses J items (outs ++ answers_unanswered items.unanswered (answer.Lost name)) (items_answer items)
+  is_lost name may ends = Last (Loses name outs may plain ends)

@@ -5,7 +5,6 @@ use Rattle.node_base.specs.Beginning.{items_answer, answers_unanswered, items_be
 use Rattle.node_base.specs.declared.effects.Effect.{Effect}
 use Rattle.node_base.specs.declared.effects.Effect.TheVariants.{Send, Answer as Answers, Lose, Does}
 use Rattle.node_base.specs.declared.items.Items.{Items}
-use Rattle.token_protocol.specs.Basics.{In}
 use Rattle.version_model.specs.declared.act.Act.{Act}
 use Rattle.version_model.specs.declared.act.Act.TheVariants as act
 use Rattle.version_model.specs.declared.answer.Answer.{Answer}
@@ -29,8 +28,13 @@ IsAside (act.Filed seg) = Unit {0}
 IsAside (act.Dropped seg) = Unit {0}
 IsAside _ = ⊥
 
+-- an act that a segment is filed
+abbrev pub IsFiling : Act → Type 0
+IsFiling (act.Filed seg) = Unit {0}
+IsFiling _ = ⊥
+
 -- What a node may do of segments that are lost: say nothing of them, say that one is lost, or say that and answer the open item so. It acts nothing else but what
--- is for no item; but where it is a client that serves, which may answer so, or one that returns, which is silent of them.
+-- is for no item, and a manager only that segments are filed; but where it is a client that serves, which may answer so, or one that returns, which is silent of them.
 pub data Losses : Type 0 where
   Silent : Losses
   Telling : Losses
@@ -54,7 +58,7 @@ MayAnswer Returning = ⊥
 
 abbrev pub MayAct : Losses → Act → Type 0
 MayAct Silent a = IsAside a
-MayAct Telling a = IsAside a
+MayAct Telling a = IsFiling a
 MayAct Reading a = IsAside a
 MayAct Answering a = IsSilent a
 MayAct Returning a = IsSilent a
@@ -93,13 +97,18 @@ IsCleaners answer.Done = Unit {0}
 IsCleaners (answer.Count count) = Unit {0}
 IsCleaners _ = ⊥
 
--- any but that the item is cut, or that a segment is lost
+-- any but that the item is cut, that a segment is lost, or a listing
 abbrev pub IsPrompt : Answer → Type 0
 IsPrompt answer.Cut = ⊥
 IsPrompt (answer.Lost name) = ⊥
+IsPrompt (answer.Names names) = ⊥
 IsPrompt _ = Unit {0}
 
 -- ---- the moves
+
+-- the last of these effects says that this segment is lost
+abbrev pub EndsInLoss : SegName → List Effect → Type 0
+EndsInLoss name outs = (front : List Effect) × (outs ≡ front ++ Lose name ∷ [])
 
 -- they ask for the same, none has begun, and no other is open
 pub record ItemsStay (before after : Items) : Type 0 where
@@ -113,8 +122,8 @@ pub data Move (losses : Losses) (J : Answer → Type 0) : Items → List Effect 
   Stays : {before after : Items} {outs : List Effect} → ItemsStay before after → AllPlain losses outs → Move losses J before outs after
   -- The open item is answered so, and none is open then.
   Ends : {items : Items} (a : Answer) → J a → Move losses J items (answers_unanswered items.unanswered a) (items_answer items)
-  -- It is said that a segment is lost, and that is the answer of the open item.
-  Loses : {items : Items} (name : SegName) (outs : List Effect) → MayAnswer losses → AllPlain losses outs → In (Lose name) outs
+  -- It is said, last of all, that a segment is lost, and that is the answer of the open item.
+  Loses : {items : Items} (name : SegName) (outs : List Effect) → MayAnswer losses → AllPlain losses outs → EndsInLoss name outs
       → Move losses J items (outs ++ answers_unanswered items.unanswered (answer.Lost name)) (items_answer items)
 
 -- Any list of moves, oldest first.

@@ -4,6 +4,8 @@ pub returns : goal.returns
 returns c e setup run = record {
   outside = record {
     linearizable = c.runs_are_linearizable.ensures.linear e setup run;
+    updates = c.runs_are_linearizable.ensures.updates e setup run;
+    as_one_machine = c.runs_are_as_one_machine.ensures.runs e setup run;
     answered_once = c.items_are_answered_once.ensures.runs e run;
     answers_acted = c.answers_are_acts.ensures.acted e;
     acts_belong = record {
@@ -14,6 +16,12 @@ returns c e setup run = record {
     };
     answers_fit = c.answers_fit_where_a_node_stands.ensures.fits e;
     dues_answered = c.runs_answer_what_is_due.ensures.runs e;
+    numbers_true = record {
+      rebuilds = c.rebuilds_are_true.ensures.runs e run;
+      cleanings = c.cleanings_are_true.ensures.runs e run;
+    };
+    crashes_felt = c.each_crash_is_felt.ensures.crashes e;
+    in_turn = c.runs_in_turn_are_never_busy.ensures.turns e;
     files_planned = c.file_answers_are_planned.ensures.planned e;
     versions_newest = c.answered_versions_are_newest.ensures.newest e setup run;
     legal_acts = c.every_runs_acts_are_legal.ensures.legal e setup run;
@@ -26,6 +34,7 @@ returns c e setup run = record {
       answers = c.lost_answers_are_said.ensures.runs e;
     };
     undoubted = λ none. (c.without_losses_no_restart_is_doubtful.ensures.scripts e setup run none).1;
+    unlost = c.nothing_is_lost_without_losses.ensures.lost e setup run;
   };
   inside = record {
     one_owner = c.every_run_has_one_owner.ensures.one_owner e setup run;
@@ -33,6 +42,9 @@ returns c e setup run = record {
     one_manager = c.every_run_has_one_manager.ensures.one_manager e setup run;
     beliefs = c.managers_believe_their_clients.ensures.believed e setup run;
     nobody_holds = c.what_fell_is_held_by_nobody.ensures.nobody e setup run;
+    calls_wait = c.open_calls_have_asked.ensures.runs e;
+    wants_again = c.wants_are_sent_again.ensures.runs e;
+    questions_answered = c.questions_are_answered.ensures.runs e;
     logs_stand = c.runs_keep_logs.ensures.keeps e setup run;
     cleaners_log_stands = c.runs_keep_logs.ensures.cleaners e setup run;
     managers_logs_stand = c.runs_keep_logs.ensures.managers e setup run;

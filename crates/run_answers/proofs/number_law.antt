@@ -1,0 +1,15 @@
+mod Evidence
+mod Running
+mod Awaiting
+mod Asking
+mod Taking
+mod Events
+mod Acting
+mod Rebuilds
+mod Cleanings
+mod Choosing
+mod Tallies
+mod Turning
+mod Emptying
+mod Sweeping
+mod Counts

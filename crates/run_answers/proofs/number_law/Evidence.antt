@@ -1,0 +1,95 @@
+-- What came to a server since its rebuild began, and what was filled in and is gone by that, is so still behind a further event.
+use Rattle.std.proofs.Common.{ℕ, suc, List, arith}
+use Rattle.std.specs.List.{AllByRecursion}
+use Rattle.core_world.specs.declared.any_node.AnyNode.{AnyNode}
+use Rattle.group_rebuild.specs.declared.wanted.Wanted.{Wanted}
+use Rattle.stripe_code.specs.declared.round.Answer.{Answer as Reply}
+use Rattle.stripe_code.specs.declared.round.RoundState.{RoundState}
+use Rattle.stripe_code.specs.declared.round.Told.{Told}
+use Rattle.stripe_code.specs.declared.round.Told.TheVariants as told
+use Rattle.wire_msg.specs.declared.body.Body.{Body}
+use Rattle.wire_msg.specs.declared.body.Body.TheVariants as body
+use Rattle.wire_msg.specs.declared.storage.Listed.{Listed}
+use Rattle.world_base.specs.declared.estate.Estate.{Estate}
+use Rattle.xfs_base.proofs.Alls.{all_weaker}
+use Rattle.headline.specs.Numbers.{AreCounted, HasCome, HasTold, IsFilled, IsGone, IsLacking, RoundStands}
+use Rattle.headline.specs.Numbers.AreCounted.{NoneYet, OneFilled, OneGone}
+
+module _ (e : Estate AnyNode) (v begun end : ℕ) where
+  -- such a list came from such a server
+  abbrev pub ListCame : ℕ × Listed → Type 0
+  ListCame list = HasCome e v begun end list.0 (body.Listed list.1)
+
+  -- so a server replied
+  abbrev pub Replied : Reply → Type 0
+  Replied r = HasTold e v begun end r.server r.told
+
+-- ---- one event later
+
+module _ (e : Estate AnyNode) (v begun end : ℕ) where
+  come_later : (from : ℕ) (said : Body) → HasCome e v begun end from said → HasCome e v begun (suc end) from said
+  come_later from said h =
+      let low = h.before in
+      record {
+        place = h.place;
+        since = h.since;
+        before = omega arith;
+        packet = h.packet;
+        happens = h.happens;
+        to_it = h.to_it;
+        from_it = h.from_it;
+        says = h.says;
+      }
+
+  told_later : (from : ℕ) (t : Told) → HasTold e v begun end from t → HasTold e v begun (suc end) from t
+  told_later from (told.Held f) h = (h.0, come_later from (body.Fragment h.0) h.1, h.2)
+  told_later from (told.Missing g) h = (h.0, come_later from (body.Missing h.0) h.1, h.2)
+
+  pub lists_later : (lists : List (ℕ × Listed)) → AllByRecursion (ListCame e v begun end) lists → AllByRecursion (ListCame e v begun (suc end)) lists
+  lists_later lists all =
+      all_weaker (ListCame e v begun end) (ListCame e v begun (suc end)) (λ list h. come_later list.0 (body.Listed list.1) h) lists all
+
+  pub replies_later : (replies : List Reply) → AllByRecursion (Replied e v begun end) replies → AllByRecursion (Replied e v begun (suc end)) replies
+  replies_later replies all =
+      all_weaker (Replied e v begun end) (Replied e v begun (suc end)) (λ r h. told_later r.server r.told h) replies all
+
+  round_later : (w : Wanted) (s : RoundState) → RoundStands e v begun end w s → RoundStands e v begun (suc end) w s
+  round_later w s h = record { replies = h.replies; come = replies_later h.replies h.come; is = h.is }
+
+  filled_later : (w : Wanted) → IsFilled e v begun end w → IsFilled e v begun (suc end) w
+  filled_later w h =
+      let low = h.before in
+      record {
+        text = h.text;
+        read = round_later w _ h.read;
+        place = h.place;
+        since = h.since;
+        before = omega arith;
+        shelf = h.shelf;
+        its = h.its;
+        stands = h.stands;
+      }
+
+  gone_later : (w : Wanted) → IsGone e v begun end w → IsGone e v begun (suc end) w
+  gone_later w h = record { pairs = h.pairs; short = round_later w _ h.short }
+
+  pub counted_later : {ws : List Wanted} {filled gone : ℕ} → AreCounted e v begun end ws filled gone → AreCounted e v begun (suc end) ws filled gone
+  counted_later NoneYet = NoneYet
+  counted_later (OneFilled w h one) = OneFilled w (counted_later h) (filled_later w one)
+  counted_later (OneGone w h one) = OneGone w (counted_later h) (gone_later w one)
+
+  pub lacking_later : (wanted : List Wanted) → IsLacking e v begun end wanted → IsLacking e v begun (suc end) wanted
+  lacking_later wanted h =
+      let low = h.before in
+      record {
+        place = h.place;
+        before = omega arith;
+        node = h.node;
+        its = h.its;
+        groups = h.groups;
+        known = h.known;
+        lists = h.lists;
+        come = lists_later h.lists h.come;
+        all = h.all;
+        lacks = h.lacks;
+      }

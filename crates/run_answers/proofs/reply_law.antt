@@ -1,0 +1,5 @@
+mod Servers
+mod Shelves
+mod Registries
+mod Managers
+mod Runs

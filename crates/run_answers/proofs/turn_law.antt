@@ -1,0 +1,4 @@
+pub mod Beginning
+pub mod Fallen
+mod Stood
+mod InTurn

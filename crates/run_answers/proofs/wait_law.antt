@@ -1,0 +1,4 @@
+mod Needs
+mod Waits
+mod Again
+mod Runs

@@ -1,0 +1,6 @@
+use Rattle.run_answers.proofs.wait_law.Runs.{each_run}
+use Rattle.run_answers.proofs.wait_law.Waits.{event_waits, start_waits}
+use Rattle.run_answers.proofs.wait_law.open_calls_have_asked.Goals as goal
+
+pub returns : goal.returns
+returns c = record { starts = start_waits; events = event_waits; runs = each_run }

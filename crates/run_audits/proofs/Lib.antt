@@ -1,0 +1,13 @@
+mod Acted
+mod Attempts
+mod Bytes
+mod Clients
+mod Flown
+mod ClientActs
+mod Losses
+mod Dropping
+mod Drops
+mod Others
+mod Listings
+mod Answered
+mod Runs
