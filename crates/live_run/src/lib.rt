@@ -9,4 +9,4 @@ pub mod workers;
 
 pub use cells::{first_cells, left_at, seats_of, turned_round};
 pub use running::{LAST, all_done, all_waited, apart, live, merged, one_round};
-pub use workers::{MORE, PATIENCE, QUIET, Round, Seat, Visited, Watch, go_round};
+pub use workers::{MORE, PATIENCE, QUIET, Round, Seat, Visited, Watch, go_own, go_round};

@@ -55,12 +55,7 @@ pub fn one_round<T: Visited>(alloc: Global, all: Vec<T>, idle: bool) -> Mem<(Vec
     ensures { IfOk result (λ r. length r.0.items ≡ length all.items) }
 {
     let mut next = Vec::new(alloc);
-    let mut round = Round {
-        gone: false,
-        moved: false,
-        answered: false,
-        done: true,
-    };
+    let mut round = Round::over(true);
     for one in all {
         let before = one.answers();
         let (one, moved) = one.have_turns(alloc, idle)?;

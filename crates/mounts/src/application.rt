@@ -5,9 +5,11 @@ ghost use Rattle.live_links.specs.Facts.{dues_at};
 ghost use Rattle.mounts.specs.Ports.{IsFreshMount, IsMountAt, items_to};
 ghost use Rattle.mounts.specs.Turns.{GoesOn, Takes, application_call, may_call};
 
+use crate::bell::Bell;
 use crate::{Mount, MountName, Reply};
 use std::alloc::{AllocError, Global};
 use std::marker::PhantomData;
+use std::sync::Arc;
 use world_base::Due;
 use xfs_base::{Gate, List, Mem};
 
@@ -83,6 +85,11 @@ impl<R: MountName> Application<R> {
             replies: List::new(alloc),
             of: PhantomData,
         }
+    }
+
+    /// What rings when it is replied.
+    pub(crate) fn bell(&self) -> Mem<Arc<Bell, Global>> {
+        self.mount.bell()
     }
 
     /// Whether it has called all items and was replied as often.

@@ -4,6 +4,7 @@
 #![tactic(auto)]
 
 pub mod application;
+mod bell;
 pub mod mount;
 pub mod mounted_cell;
 pub mod mounted_run;

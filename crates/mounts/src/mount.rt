@@ -3,7 +3,11 @@ ghost use Rattle.std.specs.Prelude.{◌≡◌, ◌<◌, ◌+◌, ◌∷◌, ◌+
 ghost use Rattle.rtrb.specs.Ring.{SameConsumer, SameProducer, known_free, known_items, producer_capacity, received, sent};
 
 use crate::Reply;
+use crate::bell::Bell;
 use rtrb::{Consumer, Producer};
+use std::alloc::Global;
+use std::sync::Arc;
+use xfs_base::Mem;
 
 /// The end of a pair of rings by which an application calls the items of a client and takes what that replies.
 #[derive(Drop)]
@@ -12,10 +16,34 @@ pub struct Mount {
     pub(crate) calls: Producer<u32>,
     /// Where it is replied.
     pub(crate) replies: Consumer<Reply>,
+    bell: Arc<Bell, Global>,
     ghost room: { known_free calls + length (sent calls) ≡ producer_capacity calls },
 }
 
 impl Mount {
+    /// The end of rings through which nothing passed yet.
+    pub(crate) fn start(
+        calls: Producer<u32>,
+        replies: Consumer<Reply>,
+        bell: Arc<Bell, Global>,
+    ) -> Mount
+        requires empty { sent calls ≡ [] }
+        requires room { known_free calls ≡ producer_capacity calls }
+        ensures { (result.calls ≡ calls) × (result.replies ≡ replies) }
+    {
+        Mount {
+            calls,
+            replies,
+            bell,
+        }
+    }
+
+    /// What rings when it is replied.
+    pub(crate) fn bell(&self) -> Mem<Arc<Bell, Global>> {
+        let bell = self.bell.clone()?;
+        Ok(bell)
+    }
+
     /// Calls an item. It can't be refused, since there is a slot for each call that may be made, and takes no memory.
     pub fn call(&mut self, item: u32)
         requires { length (sent self.old.calls) < producer_capacity self.old.calls }
@@ -24,6 +52,7 @@ impl Mount {
         ensures replies { self.new.replies ≡ self.old.replies }
     {
         self.calls.push_reserved(item);
+        self.bell.call();
     }
 
     /// Takes the oldest reply; none where its end knows of none. It takes no memory.

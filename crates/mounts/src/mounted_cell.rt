@@ -226,4 +226,14 @@ impl<N: Member, R: MountName> Visited for MountedCell<N, R> {
     fn answers(&self) -> usize {
         self.cell.answered().len()
     }
+
+    fn is_still(&self) -> bool {
+        let waits = self.cell.begun() < self.called;
+        (waits || !self.port.has_call(self.called)) && self.cell.rests(waits)
+    }
+
+    fn is_awaiting(&self) -> bool {
+        let answered = self.cell.answered().len() as u64;
+        answered >= self.called && !self.port.has_call(self.called) && !self.cell.done()
+    }
 }

@@ -3,9 +3,11 @@ ghost use Rattle.std.specs.Prelude.{◌≡◌, IfOk};
 ghost use Rattle.rtrb.specs.Ring.{producer_capacity};
 ghost use Rattle.mounts.specs.Ports.{AreJoined, IsFreshMount, IsFreshPort};
 
+use crate::bell::Bell;
 use crate::{Mount, Port, Reply};
 use rtrb::RingBuffer;
 use std::alloc::Global;
+use std::sync::Arc;
 use xfs_base::Mem;
 
 /// Joins an application to a client by two rings, of which each has a slot for each of so many calls.
@@ -17,9 +19,10 @@ pub fn pair(alloc: Global, calls: u32) -> Mem<(Mount, Port)>
 {
     let (call, called) = RingBuffer::<u32>::new(alloc, calls as usize)?;
     let (reply, replied) = RingBuffer::<Reply>::new(alloc, calls as usize)?;
-    let mount = Mount {
-        calls: call,
-        replies: replied,
-    };
-    Ok((mount, Port::start(called, reply, calls)))
+    let bell = Arc::new(alloc, Bell::new())?;
+    let other = bell.clone()?;
+    Ok((
+        Mount::start(call, replied, bell),
+        Port::start(called, reply, calls, other),
+    ))
 }

@@ -3,7 +3,10 @@ ghost use Rattle.std.specs.Prelude.{◌≡◌, ◌<◌, ◌+◌, ◌↔◌, ◌�
 ghost use Rattle.rtrb.specs.Ring.{SameConsumer, SameProducer, known_free, known_items, producer_capacity, received, sent};
 
 use crate::Reply;
+use crate::bell::Bell;
 use rtrb::{Consumer, Producer};
+use std::alloc::Global;
+use std::sync::Arc;
 
 /// The end of a pair of rings by which a client is called, and replies.
 #[derive(Drop)]
@@ -14,6 +17,7 @@ pub struct Port {
     pub(crate) replies: Producer<Reply>,
     given: u32,
     slots: u32,
+    bell: Arc<Bell, Global>,
     ghost room: { known_free replies + length (sent replies) ≡ producer_capacity replies },
     ghost given_are: { given ≡ length (sent replies) },
     ghost slots_are: { slots ≡ producer_capacity replies },
@@ -21,7 +25,12 @@ pub struct Port {
 
 impl Port {
     /// The end of rings through which nothing passed yet, with so many slots.
-    pub(crate) fn start(calls: Consumer<u32>, replies: Producer<Reply>, slots: u32) -> Port
+    pub(crate) fn start(
+        calls: Consumer<u32>,
+        replies: Producer<Reply>,
+        slots: u32,
+        bell: Arc<Bell, Global>,
+    ) -> Port
         requires empty { sent replies ≡ [] }
         requires room { known_free replies ≡ producer_capacity replies }
         requires slots { producer_capacity replies ≡ slots }
@@ -32,7 +41,13 @@ impl Port {
             replies,
             given: 0,
             slots,
+            bell,
         }
+    }
+
+    /// Whether more items were called than so many.
+    pub(crate) fn has_call(&self, heard: u64) -> bool {
+        self.bell.calls() > heard
     }
 
     /// Takes the number of the oldest item that was called; none where its end knows of none. It takes no memory.
@@ -64,6 +79,7 @@ impl Port {
     {
         self.replies.push_reserved(reply);
         self.given += 1;
+        self.bell.reply();
     }
 
     /// Its two ends. It takes no memory.

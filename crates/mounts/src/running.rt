@@ -132,11 +132,10 @@ fn finish<N: Member, R: MountName, W: Wait, G: Gate>(
         applications = next_applications;
         clients = next_clients;
         others = next_others;
+        let cells = other.and(third);
         let round = Round {
-            gone: false,
-            moved: one || other.moved || third.moved,
-            answered: other.answered || third.answered,
-            done: other.done && third.done,
+            moved: one || cells.moved,
+            ..cells
         };
         watch = watch.with(idle, round);
     }

@@ -1,10 +1,11 @@
 //! The threads of a run with applications: the workers, and one for each application.
+use crate::bell::Bell;
 use crate::{Application, MountName, MountedCell};
 use live_links::Cell;
-use live_run::{PATIENCE, QUIET, Round, Seat, Watch, go_round};
+use live_run::{PATIENCE, QUIET, Round, Seat, Watch, go_own, go_round};
 use std::alloc::Global;
-use std::sync::Wait;
 use std::sync::atomic::{AtomicU64, Ordering};
+use std::sync::{Arc, Wait};
 use std::thread;
 use std::thread::Threads;
 use world_base::Member;
@@ -74,8 +75,20 @@ fn attend<R: MountName, W: Wait, G: Gate>(rt: &W, seat: &Seat<Application<R>>, g
     }
 }
 
+/// What rings when an application is replied; none where memory was wanting.
+fn bell_of<R: MountName, W: Wait>(
+    rt: &W,
+    seat: &Seat<Application<R>>,
+) -> Option<Arc<Bell, Global>> {
+    let guard = seat.lock(rt);
+    match &*guard {
+        None => None,
+        Some(application) => application.bell().ok(),
+    }
+}
+
 /// An application's thread: it goes on until it has nothing left to do, or all workers have left, or memory is wanting
-/// somewhere.
+/// somewhere. Where it can do nothing it sleeps until it is replied.
 fn apply<R: MountName, W: Wait, G: Gate>(
     rt: &W,
     seat: &Seat<Application<R>>,
@@ -83,10 +96,18 @@ fn apply<R: MountName, W: Wait, G: Gate>(
     workers: u8,
     gate: &G,
 ) {
+    let bell = match bell_of(rt, seat) {
+        None => {
+            flag.raise();
+            return;
+        }
+        Some(bell) => bell,
+    };
     for _ in rt.forever() {
         if flag.is_raised() || flag.have_left(workers) {
             return;
         }
+        let replies = bell.replies();
         match attend(rt, seat, gate) {
             Found::Nothing => {
                 flag.raise();
@@ -97,7 +118,7 @@ fn apply<R: MountName, W: Wait, G: Gate>(
                     return;
                 }
                 if !moved {
-                    thread::yield_now();
+                    bell.sleep(rt, replies);
                 }
             }
         }
@@ -132,12 +153,21 @@ fn go_over<N: Member, R: MountName, G: Gate>(
 ) -> Round {
     let one = go_round(alloc, clients, first, idle, gate);
     let other = go_round(alloc, others, first, idle, gate);
-    Round {
-        gone: one.gone || other.gone,
-        moved: one.moved || other.moved,
-        answered: one.answered || other.answered,
-        done: one.done && other.done,
-    }
+    one.and(other)
+}
+
+/// One round over a worker's own cells of both kinds.
+fn go_over_own<N: Member, R: MountName, G: Gate>(
+    alloc: Global,
+    clients: &[Seat<MountedCell<N, R>>],
+    others: &[Seat<Cell<N, R>>],
+    first: usize,
+    workers: usize,
+    gate: &G,
+) -> Round {
+    let one = go_own(alloc, clients, first, workers, gate);
+    let other = go_own(alloc, others, first, workers, gate);
+    one.and(other)
 }
 
 /// What a worker does: it goes round over the cells until all items of all nodes are answered, or memory is wanting
@@ -149,13 +179,20 @@ fn work<N: Member, R: MountName, W: Wait, G: Gate>(
     clients: &[Seat<MountedCell<N, R>>],
     others: &[Seat<Cell<N, R>>],
     first: usize,
+    workers: u8,
     flag: &Flag,
     gate: &G,
 ) {
+    let workers = usize::from(workers);
     let mut watch = Watch::new();
+    let mut moved = true;
     for _ in rt.forever() {
         let idle = watch.is_idle(QUIET);
-        let round = go_over(alloc, clients, others, first, idle, gate);
+        let round = if moved && !idle {
+            go_over_own(alloc, clients, others, first, workers, gate)
+        } else {
+            go_over(alloc, clients, others, first, idle, gate)
+        };
         if round.gone {
             flag.raise();
         }
@@ -166,7 +203,8 @@ fn work<N: Member, R: MountName, W: Wait, G: Gate>(
         if watch.has_passed(PATIENCE) {
             return;
         }
-        if !round.moved {
+        moved = round.moved;
+        if !moved {
             thread::yield_now();
         }
     }
@@ -195,10 +233,8 @@ fn work_for_all<N: Member, R: MountName, W: Wait, G: Gate>(
             return;
         }
         let round = Round {
-            gone: cells.gone,
             moved: cells.moved || attended,
-            answered: cells.answered,
-            done: cells.done,
+            ..cells
         };
         watch = watch.with(idle, round);
         if watch.has_passed(PATIENCE) {
@@ -246,7 +282,7 @@ pub(crate) fn run_threads<
             let first = usize::from(worker);
             if scope
                 .spawn(move || {
-                    work(rt, alloc, clients, others, first, raised, gate);
+                    work(rt, alloc, clients, others, first, workers, raised, gate);
                     raised.leave();
                 })
                 .is_err()
