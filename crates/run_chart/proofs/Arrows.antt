@@ -11,7 +11,7 @@ use Rattle.xfs_base.proofs.Booleans.{by_test}
 use Rattle.run_chart.specs.declared.mark.Mark.{Mark}
 use Rattle.run_chart.specs.declared.mark.Mark.TheVariants as mark
 use Rattle.run_chart.specs.declared.row.Row.{Row}
-use Rattle.run_chart.specs.Marks.{ArrowsOnce, acts_from, arrow_at, comes, drawn_at, is_answer, is_arrow, labels_of, lost_from, marks_of, out_from}
+use Rattle.run_chart.specs.Marks.{ArrowsOnce, acts_from, arrow_at, comes, drawn_at, drawn_by, is_answer, is_arrow, labels_of, lost_from, marks_of, out_from, row_sent}
 use Rattle.run_chart.specs.Stretches.{within}
 
 abbrev arrows : List Mark → List Mark
@@ -32,11 +32,11 @@ none_out row column [] = refl
 none_out row column (true ∷ rest) = none_out row (column + 1) rest
 none_out row column (false ∷ rest) = none_out row (column + 1) rest
 
-none_lost : (events : List Event) (row nth : ℕ) (packets : List Packet) → arrows (lost_from events row nth packets) ≡ []
-none_lost events row nth [] = refl
-none_lost events row nth (packet ∷ packets) =
-    by_test (λ (marks : List Mark). arrows (marks ++ lost_from events row (nth + 1) packets) ≡ []) (comes events packet) [] (mark.Lost row nth ∷ [])
-    (λ _. none_lost events row (nth + 1) packets) (λ _. none_lost events row (nth + 1) packets)
+none_lost : (coming : Packet → Bool) (row nth : ℕ) (packets : List Packet) → arrows (lost_from coming row nth packets) ≡ []
+none_lost coming row nth [] = refl
+none_lost coming row nth (packet ∷ packets) =
+    by_test (λ (marks : List Mark). arrows (marks ++ lost_from coming row (nth + 1) packets) ≡ []) (coming packet) [] (mark.Lost row nth ∷ [])
+    (λ _. none_lost coming row (nth + 1) packets) (λ _. none_lost coming row (nth + 1) packets)
 
 none_done : (row nth : ℕ) (acts : List Act) → arrows (acts_from row nth acts) ≡ []
 none_done row nth [] = refl
@@ -50,29 +50,29 @@ none_written (row ∷ rows) = none_written rows
 
 -- ---- an arrow is one
 
-all_arrow : (rows : List Row) (row : ℕ) (event : Option Event) → arrows (arrow_at rows row event) ≡ arrow_at rows row event
-all_arrow rows row None = refl
-all_arrow rows row (Some (Begin node)) = refl
-all_arrow rows row (Some (Deliver packet)) = refl
-all_arrow rows row (Some (Tick node)) = refl
+all_arrow : (sent : Packet → Option ℕ) (row : ℕ) (event : Option Event) → arrows (arrow_at sent row event) ≡ arrow_at sent row event
+all_arrow sent row None = refl
+all_arrow sent row (Some (Begin node)) = refl
+all_arrow sent row (Some (Deliver packet)) = refl
+all_arrow sent row (Some (Tick node)) = refl
 
 module _ (e : Estate AnyNode) (rows : List Row) where
   abbrev its : Row → List Mark
-  its row = arrow_at rows row.number (slice_get e.events row.event)
+  its row = arrow_at (row_sent rows) row.number (slice_get e.events row.event)
 
   at_row : (row : Row) → arrows (drawn_at e rows row) ≡ its row
-  unfolding drawn_at
+  unfolding drawn_by
   at_row row =
       let out = out_from row.number 0 row.serving in
-      let lost = lost_from e.events row.number 0 (within row.sent e.world.sent) in
+      let lost = lost_from (comes e.events) row.number 0 (within row.sent e.world.sent) in
       let done = acts_from row.number 0 (within row.acts e.world.acts) in
       arrows_append out (its row ++ (lost ++ done))
       ∙ ap (λ xs. xs ++ arrows (its row ++ (lost ++ done))) (none_out row.number 0 row.serving)
       ∙ arrows_append (its row) (lost ++ done)
-      ∙ ap (λ xs. xs ++ arrows (lost ++ done)) (all_arrow rows row.number (slice_get e.events row.event))
+      ∙ ap (λ xs. xs ++ arrows (lost ++ done)) (all_arrow (row_sent rows) row.number (slice_get e.events row.event))
       ∙ ap (λ xs. its row ++ xs)
       (arrows_append lost done
-      ∙ ap (λ xs. xs ++ arrows done) (none_lost e.events row.number 0 (within row.sent e.world.sent))
+      ∙ ap (λ xs. xs ++ arrows done) (none_lost (comes e.events) row.number 0 (within row.sent e.world.sent))
       ∙ none_done row.number 0 (within row.acts e.world.acts))
       ∙ append-nil (its row)
 

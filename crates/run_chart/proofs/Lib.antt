@@ -1,3 +1,4 @@
 mod Arrows
+mod Moments
 mod Numbers
 mod Standing

@@ -1,6 +1,6 @@
 -- Each mark stands at a row of its picture.
 use Rattle.std.proofs.Common.{◌≡◌, ◌<◌, ◌≤◌, ℕ, ◌+◌, Bool, true, false, List, [], ◌∷◌, ◌++◌, length, slice_get, Option, Some, None, arith}
-use Rattle.std.specs.List.{AllByRecursion, flat_map, position}
+use Rattle.std.specs.List.{AllByRecursion, flat_map}
 use Rattle.core_world.specs.declared.any_node.AnyNode.{AnyNode}
 use Rattle.version_model.specs.declared.act.Act.{Act}
 use Rattle.wire_msg.specs.declared.packet.Packet.{Packet}
@@ -12,7 +12,7 @@ use Rattle.xfs_base.proofs.Booleans.{by_test}
 use Rattle.run_chart.specs.declared.mark.Mark.{Mark}
 use Rattle.run_chart.specs.declared.mark.Mark.TheVariants as mark
 use Rattle.run_chart.specs.declared.row.Row.{Row}
-use Rattle.run_chart.specs.Marks.{MarksStandAtRows, StandAtRows, acts_from, arrow_at, comes, drawn_at, is_answer, labels_of, lost_from, marks_of, out_from, row_of}
+use Rattle.run_chart.specs.Marks.{MarksStandAtRows, StandAtRows, acts_from, arrow_at, comes, drawn_at, drawn_by, is_answer, labels_of, lost_from, marks_of, out_from, row_of, row_sent}
 use Rattle.run_chart.specs.Rows.{NumberedFrom}
 use Rattle.run_chart.specs.Stretches.{within}
 
@@ -29,11 +29,11 @@ module _ (limit : ℕ) where
     outs column (true ∷ rest) = outs (column + 1) rest
     outs column (false ∷ rest) = (low, outs (column + 1) rest)
 
-    losts : (events : List Event) (nth : ℕ) (packets : List Packet) → All (lost_from events row nth packets)
-    losts events nth [] = tt
-    losts events nth (packet ∷ packets) =
-        by_test (λ (marks : List Mark). All (marks ++ lost_from events row (nth + 1) packets)) (comes events packet) [] (mark.Lost row nth ∷ [])
-        (λ _. losts events (nth + 1) packets) (λ _. (low, losts events (nth + 1) packets))
+    losts : (coming : Packet → Bool) (nth : ℕ) (packets : List Packet) → All (lost_from coming row nth packets)
+    losts coming nth [] = tt
+    losts coming nth (packet ∷ packets) =
+        by_test (λ (marks : List Mark). All (marks ++ lost_from coming row (nth + 1) packets)) (coming packet) [] (mark.Lost row nth ∷ [])
+        (λ _. losts coming (nth + 1) packets) (λ _. (low, losts coming (nth + 1) packets))
 
     dones : (nth : ℕ) (acts : List Act) → All (acts_from row nth acts)
     dones nth [] = tt
@@ -41,25 +41,25 @@ module _ (limit : ℕ) where
         by_test (λ (marks : List Mark). All (marks ++ acts_from row (nth + 1) acts)) (is_answer act) [] (mark.Done row nth ∷ [])
         (λ _. dones (nth + 1) acts) (λ _. (low, dones (nth + 1) acts))
 
-    arrows : (rows : List Row) (event : Option Event) → All (arrow_at rows row event)
-    arrows rows None = tt
-    arrows rows (Some (Begin node)) = tt
-    arrows rows (Some (Deliver packet)) = (low, tt)
-    arrows rows (Some (Tick node)) = tt
+    arrows : (sent : Packet → Option ℕ) (event : Option Event) → All (arrow_at sent row event)
+    arrows sent None = tt
+    arrows sent (Some (Begin node)) = tt
+    arrows sent (Some (Deliver packet)) = (low, tt)
+    arrows sent (Some (Tick node)) = tt
 
 module _ (e : Estate AnyNode) (rows : List Row) where
   abbrev total : ℕ
   total = length rows
 
   at_row : (row : Row) → row.number < total → All total (drawn_at e rows row)
-  unfolding drawn_at
+  unfolding drawn_by
   at_row row low =
-      let arrow = arrow_at rows row.number (slice_get e.events row.event) in
-      let lost = lost_from e.events row.number 0 (within row.sent e.world.sent) in
+      let arrow = arrow_at (row_sent rows) row.number (slice_get e.events row.event) in
+      let lost = lost_from (comes e.events) row.number 0 (within row.sent e.world.sent) in
       let done = acts_from row.number 0 (within row.acts e.world.acts) in
       all_append (Stands total) (out_from row.number 0 row.serving) (arrow ++ (lost ++ done)) (outs total row.number low 0 row.serving)
-      (all_append (Stands total) arrow (lost ++ done) (arrows total row.number low rows (slice_get e.events row.event))
-      (all_append (Stands total) lost done (losts total row.number low e.events 0 (within row.sent e.world.sent))
+      (all_append (Stands total) arrow (lost ++ done) (arrows total row.number low (row_sent rows) (slice_get e.events row.event))
+      (all_append (Stands total) lost done (losts total row.number low (comes e.events) 0 (within row.sent e.world.sent))
       (dones total row.number low 0 (within row.acts e.world.acts))))
 
   at_rows : (n : ℕ) (some : List Row) → NumberedFrom n some → n + length some ≤ total → All total (flat_map (drawn_at e rows) some)

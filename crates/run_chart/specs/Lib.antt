@@ -2,6 +2,7 @@ pub mod Charts
 pub mod Drawing
 pub mod Labels
 pub mod Marks
+pub mod Moments
 pub mod Pieces
 pub mod Places
 pub mod Rows

@@ -29,11 +29,15 @@ out_from row column (serves ∷ rest) = (if serves then [] else mark.Out row col
 abbrev pub sends : Packet → Row → Bool
 sends packet row = (row.clock == packet.clock) && same_node row.node packet.from
 
--- an arrow where a packet comes, from the row in which it was sent, where that is drawn
-abbrev pub arrow : List Row → ℕ → Event → List Mark
-arrow rows row (Begin node) = []
-arrow rows row (Deliver packet) = mark.Arrow row (position (sends packet) rows) ∷ []
-arrow rows row (Tick node) = []
+-- the row in which a packet was sent, where that is drawn
+abbrev pub row_sent : List Row → Packet → Option ℕ
+row_sent rows packet = position (sends packet) rows
+
+-- an arrow where a packet comes, from the row in which it was sent
+abbrev pub arrow : (Packet → Option ℕ) → ℕ → Event → List Mark
+arrow sent row (Begin node) = []
+arrow sent row (Deliver packet) = mark.Arrow row (sent packet) ∷ []
+arrow sent row (Tick node) = []
 
 -- whether an event is the coming of a packet
 abbrev pub is_coming : Packet → Event → Bool
@@ -46,9 +50,9 @@ unfoldable pub comes : List Event → Packet → Bool
 comes events packet = list_any (is_coming packet) events
 
 -- a short arrow that ends in a cross for each packet that never comes, of those of a row from this number on
-abbrev pub lost_from : List Event → ℕ → ℕ → List Packet → List Mark
-lost_from events row nth [] = []
-lost_from events row nth (packet ∷ packets) = (if comes events packet then [] else mark.Lost row nth ∷ []) ++ lost_from events row (nth + 1) packets
+abbrev pub lost_from : (Packet → Bool) → ℕ → ℕ → List Packet → List Mark
+lost_from coming row nth [] = []
+lost_from coming row nth (packet ∷ packets) = (if coming packet then [] else mark.Lost row nth ∷ []) ++ lost_from coming row (nth + 1) packets
 
 -- ---- acts
 
@@ -64,17 +68,22 @@ acts_from row nth (act ∷ acts) = (if is_answer act then [] else mark.Done row 
 -- ---- all of them
 
 -- the marks of the coming of a packet, where it is one
-abbrev pub arrow_at : List Row → ℕ → Option Event → List Mark
-arrow_at rows row None = []
-arrow_at rows row (Some event) = arrow rows row event
+abbrev pub arrow_at : (Packet → Option ℕ) → ℕ → Option Event → List Mark
+arrow_at sent row None = []
+arrow_at sent row (Some event) = arrow sent row event
 
--- what is drawn at a row: which nodes don't serve, the packet that comes, those that never do, and what is done
-unfoldable pub drawn_at : Estate AnyNode → List Row → Row → List Mark
-drawn_at e rows row =
+-- What is drawn at a row, where it is known in which row a packet was sent, and whether it comes: which nodes don't serve, the packet that comes, those that
+-- never do, and what is done.
+unfoldable pub drawn_by : (Packet → Option ℕ) → (Packet → Bool) → Estate AnyNode → Row → List Mark
+drawn_by sent coming e row =
     out_from row.number 0 row.serving
-    ++ (arrow_at rows row.number (slice_get e.events row.event)
-    ++ (lost_from e.events row.number 0 (within row.sent e.world.sent)
+    ++ (arrow_at sent row.number (slice_get e.events row.event)
+    ++ (lost_from coming row.number 0 (within row.sent e.world.sent)
     ++ acts_from row.number 0 (within row.acts e.world.acts)))
+
+-- what is drawn at a row of these
+abbrev pub drawn_at : Estate AnyNode → List Row → Row → List Mark
+drawn_at e rows row = drawn_by (row_sent rows) (comes e.events) e row
 
 -- what is written at each row
 abbrev pub labels_of : List Row → List Mark
@@ -112,7 +121,7 @@ is_arrow (mark.Label row) = false
 -- of the marks of a picture those that are arrows are just one for each row at which a packet comes, in their order: each packet that comes is drawn once, and
 -- none that doesn't
 abbrev pub ArrowsOnce : Estate AnyNode → List Row → Type 0
-ArrowsOnce e rows = filter is_arrow (marks_of e rows) ≡ flat_map (λ row. arrow_at rows row.number (slice_get e.events row.event)) rows
+ArrowsOnce e rows = filter is_arrow (marks_of e rows) ≡ flat_map (λ row. arrow_at (row_sent rows) row.number (slice_get e.events row.event)) rows
 
 abbrev pub ArrowsAreDrawnOnce : Type 0
 ArrowsAreDrawnOnce = (e : Estate AnyNode) (rows : List Row) → ArrowsOnce e rows

@@ -7,6 +7,7 @@ mod drawing;
 pub mod label;
 pub mod law;
 pub mod mark;
+mod moment;
 mod picture;
 mod piece;
 pub mod place;

@@ -1,15 +1,16 @@
 //! The marks of a picture: what is drawn, in the order in which it is.
 ghost use Rattle.std.specs.Prelude.{◌≡◌, ◌++◌, slice_get, IfOk, OnOk};
-ghost use Rattle.std.specs.List.{flat_map, position};
-ghost use Rattle.run_chart.specs.Marks.{acts_from, arrow, arrow_at, comes, drawn_at, is_answer, is_coming, labels_of, lost_from, marks_of, out_from, sends};
+ghost use Rattle.std.specs.List.{flat_map};
+ghost use Rattle.run_chart.specs.Marks.{acts_from, arrow, arrow_at, drawn_at, drawn_by, is_answer, labels_of, lost_from, marks_of, out_from};
+ghost use Rattle.run_chart.specs.Moments.{is_there, row_found};
 
-use crate::label::same_packet;
+use crate::moment::{Comings, FirstRows};
 use crate::row::Row;
 use crate::stretch::within;
 use core_world::AnyNode;
 use std::alloc::Global;
 use version_model::Act;
-use wire_msg::{Packet, SharedPacket};
+use wire_msg::SharedPacket;
 use world_base::{Estate, Event};
 use xfs_base::{List, Mem};
 
@@ -67,29 +68,15 @@ fn add_out(marks: &mut List<Mark>, number: usize, serving: &[bool]) -> Mem<()>
     Ok(())
 }
 
-/// Whether the packets that are sent in the event of a row are those of the sender of this one, with its clock.
-fn sends(packet: &Packet, row: &Row) -> bool
-    ensures { result ≡ sends packet.now row.now }
-{
-    row.clock == packet.clock && row.node.is_same(packet.from)
-}
-
-/// The row in which a packet was sent, where that is drawn.
-fn row_sent(rows: &[Row], packet: &Packet) -> Option<usize>
-    ensures { result ≡ position (sends packet.now) rows.now }
-{
-    rows.iter().position(|row| sends(packet, row))
-}
-
 /// Appends an arrow where a packet comes.
-fn add_arrow(marks: &mut List<Mark>, rows: &[Row], row: usize, event: &Event) -> Mem<()>
-    ensures { OnOk result (marks.new ≡ marks.old ++ arrow rows.now row event.now) }
+fn add_arrow(marks: &mut List<Mark>, first: &FirstRows, row: usize, event: &Event) -> Mem<()>
+    ensures { OnOk result (marks.new ≡ marks.old ++ arrow (row_found first.now) row event.now) }
 {
     match event {
         Event::Begin(_) => Ok(()),
         Event::Deliver(packet) => marks.push(Mark::Arrow {
             row,
-            sent: row_sent(rows, packet.as_packet()),
+            sent: first.find(packet.as_packet()),
         }),
         Event::Tick(_) => Ok(()),
     }
@@ -98,49 +85,30 @@ fn add_arrow(marks: &mut List<Mark>, rows: &[Row], row: usize, event: &Event) ->
 /// Appends an arrow where the event at a place is the coming of a packet.
 fn add_arrow_at(
     marks: &mut List<Mark>,
-    rows: &[Row],
+    first: &FirstRows,
     row: usize,
     events: &List<Event>,
     place: usize,
 ) -> Mem<()>
-    ensures { OnOk result (marks.new ≡ marks.old ++ arrow_at rows.now row (slice_get events.now place)) }
+    ensures { OnOk result (marks.new ≡ marks.old ++ arrow_at (row_found first.now) row (slice_get events.now place)) }
 {
     match events.get(place) {
         None => Ok(()),
-        Some(event) => add_arrow(marks, rows, row, event),
+        Some(event) => add_arrow(marks, first, row, event),
     }
-}
-
-/// Whether an event is the coming of a packet.
-fn is_coming(packet: &Packet, event: &Event) -> bool
-    ensures { result ≡ is_coming packet.now event.now }
-{
-    match event {
-        Event::Begin(_) => false,
-        Event::Deliver(other) => same_packet(packet, other.as_packet()),
-        Event::Tick(_) => false,
-    }
-}
-
-/// Whether a packet comes at any time.
-#[tactic(auto, unfolding(crate::specs::Marks::comes))]
-fn comes(events: &[Event], packet: &Packet) -> bool
-    ensures { result ≡ comes events.now packet.now }
-{
-    events.iter().any(|event| is_coming(packet, event))
 }
 
 /// Appends a mark for each packet that never comes, of those that are sent in the event of a row.
 fn add_lost(
     marks: &mut List<Mark>,
     number: usize,
-    events: &[Event],
+    coming: &Comings,
     packets: &[SharedPacket],
 ) -> Mem<()>
-    ensures { OnOk result (marks.new ≡ marks.old ++ lost_from events.now number 0 packets.now) }
+    ensures { OnOk result (marks.new ≡ marks.old ++ lost_from (is_there coming.now) number 0 packets.now) }
 {
     for nth in 0..packets.len() {
-        if !comes(events, packets[nth].as_packet()) {
+        if !coming.has(packets[nth].as_packet()) {
             marks.push(Mark::Lost { row: number, nth })?;
         }
     }
@@ -167,16 +135,21 @@ fn add_acts(marks: &mut List<Mark>, number: usize, acts: &[Act]) -> Mem<()>
 }
 
 /// Appends what is drawn at a row.
-#[tactic(auto, unfolding(crate::specs::Marks::drawn_at))]
-fn add_row(marks: &mut List<Mark>, estate: &Estate<AnyNode>, rows: &[Row], row: &Row) -> Mem<()>
-    ensures { OnOk result (marks.new ≡ marks.old ++ drawn_at estate.now rows.now row.now) }
+#[tactic(auto, unfolding(crate::specs::Marks::drawn_by))]
+fn add_row(
+    marks: &mut List<Mark>,
+    estate: &Estate<AnyNode>,
+    first: &FirstRows,
+    coming: &Comings,
+    row: &Row,
+) -> Mem<()>
+    ensures { OnOk result (marks.new ≡ marks.old ++ drawn_by (row_found first.now) (is_there coming.now) estate.now row.now) }
 {
-    let events = estate.events.as_slice();
     let number = row.number;
     add_out(marks, number, row.serving.as_slice())?;
-    add_arrow_at(marks, rows, number, &estate.events, row.event)?;
+    add_arrow_at(marks, first, number, &estate.events, row.event)?;
     let sent = within(estate.world.sent.as_slice(), row.sent);
-    add_lost(marks, number, events, sent)?;
+    add_lost(marks, number, coming, sent)?;
     add_acts(
         marks,
         number,
@@ -184,14 +157,34 @@ fn add_row(marks: &mut List<Mark>, estate: &Estate<AnyNode>, rows: &[Row], row: 
     )
 }
 
-/// Appends what is drawn at all rows.
-fn add_rows(marks: &mut List<Mark>, estate: &Estate<AnyNode>, rows: &[Row]) -> Mem<()>
-    ensures { OnOk result (marks.new ≡ marks.old ++ flat_map (drawn_at estate.now rows.now) rows.now) }
+/// Appends what is drawn at these rows.
+fn add_drawn(
+    marks: &mut List<Mark>,
+    estate: &Estate<AnyNode>,
+    first: &FirstRows,
+    coming: &Comings,
+    rows: &[Row],
+) -> Mem<()>
+    ensures { OnOk result (marks.new ≡ marks.old ++ flat_map (drawn_by (row_found first.now) (is_there coming.now) estate.now) rows.now) }
 {
     for row in rows {
-        add_row(marks, estate, rows, row)?;
+        add_row(marks, estate, first, coming, row)?;
     }
     Ok(())
+}
+
+/// Appends what is drawn at all rows.
+fn add_rows(
+    alloc: Global,
+    marks: &mut List<Mark>,
+    estate: &Estate<AnyNode>,
+    rows: &[Row],
+) -> Mem<()>
+    ensures { OnOk result (marks.new ≡ marks.old ++ flat_map (drawn_at estate.now rows.now) rows.now) }
+{
+    let first = FirstRows::of(alloc, rows)?;
+    let coming = Comings::of(alloc, estate.events.as_slice())?;
+    add_drawn(marks, estate, &first, &coming, rows)
 }
 
 /// Appends what is written at each row.
@@ -210,7 +203,7 @@ pub fn marks_of(alloc: Global, estate: &Estate<AnyNode>, rows: &[Row]) -> Mem<Li
     ensures { IfOk result (λ marks. marks ≡ marks_of estate.now rows.now) }
 {
     let mut marks = List::new(alloc);
-    add_rows(&mut marks, estate, rows)?;
+    add_rows(alloc, &mut marks, estate, rows)?;
     add_labels(&mut marks, rows)?;
     Ok(marks)
 }
