@@ -1,6 +1,6 @@
 //! What the words of `xfs_picture` ask for.
 ghost use Rattle.std.specs.Prelude.{◌≡◌, map, string_bytes};
-ghost use Rattle.picture_call.specs.Asking.{asked_of, lines_between, lines_by, span_of};
+ghost use Rattle.picture_call.specs.Asking.{asked_of, lines_between, lines_by, one_word, span_of, word_of};
 
 use run_chart::Span;
 use script_text::Line;
@@ -13,6 +13,10 @@ pub enum Asked {
     All,
     /// What happened from the begin of the first item at or behind one line to that of the first behind another.
     Lines(u32, u32),
+    /// All that happened with three boards in the registry's place.
+    Boards,
+    /// All that happened with servers that stop and keep their disk.
+    Disks,
 }
 
 /// The lines from one number to another that doesn't stand before it.
@@ -41,12 +45,26 @@ fn lines_by(word: &str, first: &String, last: &String) -> Option<Asked>
     None
 }
 
+/// What one word asks for.
+fn one_word(word: &str) -> Option<Asked>
+    ensures { result ≡ one_word word.now }
+{
+    if word == "boards" {
+        return Some(Asked::Boards);
+    }
+    if word == "disks" {
+        return Some(Asked::Disks);
+    }
+    None
+}
+
 /// What the words after the program's name ask for; none where they are no form.
 pub fn read_words(words: &[String]) -> Option<Asked>
     ensures { result ≡ asked_of (map string_bytes words.now) }
 {
     match words {
         [] => Some(Asked::All),
+        [word] => one_word(word.as_str()),
         [word, first, last] => lines_by(word.as_str(), first, last),
         _ => None,
     }
@@ -60,6 +78,20 @@ impl Asked {
         match self {
             Asked::All => Span::Whole,
             Asked::Lines(first, last) => Span::of_lines(lines, first, last),
+            Asked::Boards => Span::Whole,
+            Asked::Disks => Span::Whole,
+        }
+    }
+
+    /// The word by which `xfs` plays what is to be drawn.
+    pub fn word(self) -> &'static str
+        ensures { result.now ≡ word_of self }
+    {
+        match self {
+            Asked::All => "run",
+            Asked::Lines(_, _) => "run",
+            Asked::Boards => "boards",
+            Asked::Disks => "disks",
         }
     }
 }

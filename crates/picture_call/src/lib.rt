@@ -1,5 +1,5 @@
 //! What `xfs_picture` answers: its words, the script that it reads, and the picture of its run. It plays the script by
-//! the call by which `xfs run` does.
+//! the call by which `xfs` does.
 #![tactic(auto)]
 
 pub mod aside;

@@ -25,7 +25,7 @@ rows_drawn e span = rows_of e.script span e.events
 
 -- the picture of these rows: the text of their marks
 abbrev pub picture_of : Estate AnyNode → List Row → List ℕ
-picture_of e rows = svg e (items_from 0 e.script.lines) rows (marks_of e rows)
+picture_of e rows = svg e 0 (items_from 0 e.script.lines) rows (marks_of e rows)
 
 abbrev pub chart_of : Estate AnyNode → Span → List ℕ
 chart_of e span = picture_of e (rows_drawn e span)

@@ -1,5 +1,5 @@
 -- The text of a picture: one SVG, made of its marks alone. The title of each mark tells it whole.
-use Rattle.std.specs.Prelude.{ℕ, ◌+◌, ◌-◌, ◌*◌, min, ◌==◌, List, [], ◌∷◌, ◌++◌, codes, length, slice_get, take, Option, Some, None, if◌then◌else◌}
+use Rattle.std.specs.Prelude.{ℕ, ◌+◌, ◌-◌, ◌*◌, min, ◌==◌, nat_lt, List, [], ◌∷◌, ◌++◌, codes, length, slice_get, take, Option, Some, None, if◌then◌else◌}
 use Rattle.std.specs.Fmt.{decimal}
 use Rattle.std.specs.List.{flat_map, range_with_len}
 use Rattle.act_text.specs.Acts.{act_text}
@@ -18,6 +18,7 @@ use Rattle.world_base.specs.declared.event.Event.{Event}
 use Rattle.world_base.specs.declared.event.Event.TheVariants.{Begin, Deliver, Tick}
 use Rattle.world_base.specs.Items.{actor_of}
 use Rattle.xfs_base.specs.declared.node.NodeId.{NodeId}
+use Rattle.xfs_base.specs.Limits.{u64_end}
 use Rattle.run_chart.specs.declared.label.Part.{Part}
 use Rattle.run_chart.specs.declared.label.Part.TheVariants.{Tokens, Logs, Reading, Maps}
 use Rattle.run_chart.specs.declared.mark.Mark.{Mark}
@@ -109,11 +110,19 @@ written_at e items row = event_text e.script.lines items row (slice_get e.events
 unfoldable pub class_text : List ℕ → List ℕ
 class_text name = codes "<g class='" ++ (name ++ codes "'>")
 
-unfoldable pub out_title : NodeId → List ℕ
-out_title node = node_text node ++ codes " doesn't serve"
+-- the name of a board, of those that stand behind all nodes
+abbrev pub board_name : ℕ → List ℕ
+board_name place = 98 ∷ decimal (min (place + 1) u64_end)
+
+-- the name over a column: that of a node, or of a board
+unfoldable pub column_name : Cluster → ℕ → List ℕ
+column_name c column = if nat_lt column (node_count c) then node_text (node_at c column) else board_name (column - node_count c)
+
+unfoldable pub out_title : Cluster → ℕ → List ℕ
+out_title c column = column_name c column ++ codes " doesn't serve"
 
 unfoldable pub out_text : Cluster → ℕ → ℕ → List ℕ
-out_text c row column = at_text column row ++ (bar_path ++ (title_text (out_title (node_at c column)) ++ mark_end))
+out_text c row column = at_text column row ++ (bar_path ++ (title_text (out_title c column) ++ mark_end))
 
 -- where an arrow begins: at its row, or at the upper end of the columns
 abbrev pub tail_of : Option ℕ → ℕ
@@ -195,17 +204,20 @@ module _ (e : Estate AnyNode) (items : List ℕ) where
 
 -- ---- the whole
 
--- the columns: each node's name, and its line
-unfoldable pub name_text : NodeId → List ℕ
-name_text node = name_open ++ (node_text node ++ text_close)
+-- the columns: the name of each node and of so many boards, and its line
+unfoldable pub name_text : Cluster → ℕ → List ℕ
+name_text c column = name_open ++ (column_name c column ++ text_close)
 
 unfoldable pub column_text : Cluster → ℕ → ℕ → List ℕ
 column_text c rows column =
-    moved_to ++ (decimal (x_of column) ++ (name_text (node_at c column)
+    moved_to ++ (decimal (x_of column) ++ (name_text c column
     ++ (life_open ++ (decimal (y_of rows) ++ life_close))))
 
-unfoldable pub columns_text : Cluster → ℕ → List ℕ
-columns_text c rows = flat_map (column_text c rows) (range_with_len 0 (node_count c))
+abbrev pub columns_in : Cluster → ℕ → ℕ
+columns_in c boards = min (node_count c + boards) u64_end
+
+unfoldable pub columns_text : Cluster → ℕ → ℕ → List ℕ
+columns_text c boards rows = flat_map (column_text c rows) (range_with_len 0 (columns_in c boards))
 
 -- what each colour means
 unfoldable pub arrow_sample : List ℕ → List ℕ
@@ -251,14 +263,14 @@ style =
     ++ (codes "<path d='M0 0L6 3L0 6z' style='fill:#444'/></marker></defs>" ++ 10 ∷ []))))
 
 -- what stands before the marks: the size, the colours, what they mean, and the columns
-unfoldable pub head_text : Cluster → ℕ → List ℕ
-head_text c rows =
-    svg_open ++ (decimal (width_of (node_count c)) ++ (svg_height ++ (decimal (height_of rows)
+unfoldable pub head_text : Cluster → ℕ → ℕ → List ℕ
+head_text c boards rows =
+    svg_open ++ (decimal (width_of (columns_in c boards)) ++ (svg_height ++ (decimal (height_of rows)
     ++ svg_font)))
 
-unfoldable pub frame_text : Cluster → ℕ → List ℕ
-frame_text c rows = head_text c rows ++ (style ++ (legend ++ columns_text c rows))
+unfoldable pub frame_text : Cluster → ℕ → ℕ → List ℕ
+frame_text c boards rows = head_text c boards rows ++ (style ++ (legend ++ columns_text c boards rows))
 
--- the text of a picture of these rows
-unfoldable pub svg : Estate AnyNode → List ℕ → List Row → List Mark → List ℕ
-svg e items rows marks = frame_text e.world.cluster (length rows) ++ (flat_map (mark_text e items rows) marks ++ (codes "</svg>" ++ 10 ∷ []))
+-- the text of a picture of these rows, with so many boards
+unfoldable pub svg : Estate AnyNode → ℕ → List ℕ → List Row → List Mark → List ℕ
+svg e boards items rows marks = frame_text e.world.cluster boards (length rows) ++ (flat_map (mark_text e items rows) marks ++ (codes "</svg>" ++ 10 ∷ []))

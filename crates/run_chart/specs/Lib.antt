@@ -1,3 +1,4 @@
+pub mod Boards
 pub mod Charts
 pub mod Drawing
 pub mod Labels

@@ -17,7 +17,7 @@ use world_base::{Estate, actor_of};
 use xfs_base::{List, Mem, Text};
 
 /// A picture has at most so many rows.
-const MAX_ROWS: usize = 20_000;
+pub(crate) const MAX_ROWS: usize = 20_000;
 
 /// Why a run is not drawn.
 #[derive(Clone, Copy, PartialEq, Eq)]
@@ -57,7 +57,7 @@ fn picture(alloc: Global, estate: &Estate<AnyNode>, rows: &[Row]) -> Mem<Text>
 {
     let items = items_of(alloc, estate.script.lines.as_slice())?;
     let marks = marks_of(alloc, estate, rows)?;
-    svg(alloc, estate, items.as_slice(), rows, marks.as_slice())
+    svg(alloc, estate, 0, items.as_slice(), rows, marks.as_slice())
 }
 
 /// The picture of the events of a run that are drawn, one SVG: a column for each node, a row for each event, time

@@ -2,9 +2,8 @@
 ghost use Rattle.std.specs.Prelude.{◌≡◌, ◌++◌, slice_get, IfOk, MatchOption, OnOk, Some, None};
 ghost use Rattle.std.specs.List.{flat_map};
 ghost use Rattle.act_text.specs.Acts.{act_text};
-ghost use Rattle.run_chart.specs.Drawing.{act_class, answer_of, arrow_by, arrow_text, at_text, begun_line, class_text, column_of, cross_text, done_by, done_text, dot_text, ends_text, event_text, label_text, line_of_arrow, line_text, lost_by, lost_text, lost_title, out_text, out_title, packet_title, part_text, tail_of, title_text, turn_of, words_text, written_at, xml_byte, xml_text};
+ghost use Rattle.run_chart.specs.Drawing.{act_class, answer_of, arrow_by, arrow_text, at_text, begun_line, class_text, column_name, column_of, cross_text, done_by, done_text, dot_text, ends_text, event_text, label_text, line_of_arrow, line_text, lost_by, lost_text, lost_title, out_text, out_title, packet_title, part_text, tail_of, title_text, turn_of, words_text, written_at, xml_byte, xml_text};
 ghost use Rattle.run_chart.specs.Stretches.{within};
-ghost use Rattle.world_base.specs.Cluster.{node_at, node_count};
 
 use crate::label::{Part, add_label, add_ways, part_of};
 use crate::piece::{
@@ -222,15 +221,21 @@ pub(crate) fn written_at(
 
 // ---- marks
 
-/// The node at a column; the registry stands for all past the last.
-fn node_at(cluster: Cluster, column: usize) -> NodeId
-    ensures { result ≡ node_at cluster column }
+/// Appends the name over a column: that of a node, or of a board, which stand behind all nodes.
+#[tactic(auto, unfolding(crate::specs::Drawing::column_name))]
+pub(crate) fn add_column_name(
+    alloc: Global,
+    out: &mut Text,
+    cluster: Cluster,
+    column: usize,
+) -> Mem<()>
+    ensures { OnOk result (out.new ≡ out.old ++ column_name cluster column) }
 {
     if column < cluster.count() {
-        cluster.node_at(column)
-    } else {
-        NodeId::Registry
+        return add_node(alloc, out, cluster.node_at(column));
     }
+    let place = column - cluster.count();
+    add_marked(alloc, out, b"b", place.saturating_add(1) as u64)
 }
 
 /// Appends what begins a mark of a class that stands by itself.
@@ -245,16 +250,16 @@ fn add_class(out: &mut Text, name: &[u8]) -> Mem<()>
 
 /// The title of a grey bar.
 #[tactic(auto, unfolding(crate::specs::Drawing::out_title))]
-fn out_title(alloc: Global, node: NodeId) -> Mem<Text>
-    ensures { IfOk result (λ text. text ≡ out_title node) }
+fn out_title(alloc: Global, cluster: Cluster, column: usize) -> Mem<Text>
+    ensures { IfOk result (λ text. text ≡ out_title cluster column) }
 {
     let mut title = Text::new(alloc);
-    add_node(alloc, &mut title, node)?;
+    add_column_name(alloc, &mut title, cluster, column)?;
     title.add(b" doesn't serve")?;
     Ok(title)
 }
 
-/// Appends a grey bar at a node that doesn't serve.
+/// Appends a grey bar at a node or a board that doesn't serve.
 #[tactic(auto, unfolding(crate::specs::Drawing::out_text))]
 pub(crate) fn add_out(
     alloc: Global,
@@ -265,7 +270,7 @@ pub(crate) fn add_out(
 ) -> Mem<()>
     ensures { OnOk result (out.new ≡ out.old ++ out_text cluster row column) }
 {
-    let title = out_title(alloc, node_at(cluster, column))?;
+    let title = out_title(alloc, cluster, column)?;
     add_at(alloc, out, column, row)?;
     out.add(bar_path())?;
     add_title(out, title.as_bytes())?;

@@ -2,6 +2,7 @@
 //! of marks, and the text is made of that list alone.
 #![tactic(auto)]
 
+pub mod boards;
 pub mod charting;
 mod drawing;
 pub mod label;
@@ -14,6 +15,7 @@ pub mod place;
 pub mod row;
 pub mod stretch;
 
+pub use boards::board_chart;
 pub use charting::{ChartError, chart};
 pub use mark::Mark;
 pub use row::Span;

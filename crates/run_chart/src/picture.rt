@@ -1,12 +1,12 @@
 //! The whole text of a picture: its head, the columns and the marks.
-ghost use Rattle.std.specs.Prelude.{◌≡◌, ◌++◌, ◌<◌, IfOk, OnOk};
+ghost use Rattle.std.specs.Prelude.{◌≡◌, ◌++◌, IfOk, OnOk};
 ghost use Rattle.std.specs.List.{flat_map};
-ghost use Rattle.run_chart.specs.Drawing.{arrow_meaning, arrow_meanings, arrow_sample, column_text, column_of, columns_text, dot_meaning, dot_meanings, dot_sample, first_dots, frame_text, head_text, label_text, last_dots, legend, mark_text, name_text, signs, style, svg, text_at, written_at};
+ghost use Rattle.run_chart.specs.Drawing.{arrow_meaning, arrow_meanings, arrow_sample, column_text, column_of, columns_in, columns_text, dot_meaning, dot_meanings, dot_sample, first_dots, frame_text, head_text, label_text, last_dots, legend, mark_text, name_text, signs, style, svg, text_at, written_at};
 ghost use Rattle.run_chart.specs.Marks.{row_of};
-ghost use Rattle.world_base.specs.Cluster.{node_count};
 
 use crate::drawing::{
-    add_arrow_by, add_done_by, add_lost_by, add_out, add_written, column_of, part_class, written_at,
+    add_arrow_by, add_column_name, add_done_by, add_lost_by, add_out, add_written, column_of,
+    part_class, written_at,
 };
 use crate::label::Part;
 use crate::mark::Mark;
@@ -16,11 +16,11 @@ use crate::piece::{
 };
 use crate::place::{height_of, width_of, x_of, y_of};
 use crate::row::Row;
-use act_text::piece::{add_marked, add_node};
+use act_text::piece::add_marked;
 use core_world::AnyNode;
 use std::alloc::Global;
 use world_base::{Cluster, Estate};
-use xfs_base::{Mem, NodeId, Text};
+use xfs_base::{Mem, Text};
 
 /// The row of a mark.
 fn row_of(mark: Mark) -> usize
@@ -108,17 +108,17 @@ fn add_marks(
     Ok(())
 }
 
-/// Appends the name of a node over its column.
+/// Appends the name over a column.
 #[tactic(auto, unfolding(crate::specs::Drawing::name_text))]
-fn add_name(alloc: Global, out: &mut Text, node: NodeId) -> Mem<()>
-    ensures { OnOk result (out.new ≡ out.old ++ name_text node) }
+fn add_name(alloc: Global, out: &mut Text, cluster: Cluster, column: usize) -> Mem<()>
+    ensures { OnOk result (out.new ≡ out.old ++ name_text cluster column) }
 {
     out.add(name_open())?;
-    add_node(alloc, out, node)?;
+    add_column_name(alloc, out, cluster, column)?;
     out.add(text_close())
 }
 
-/// Appends a column: the node's name, and its line.
+/// Appends a column: the name of a node or a board, and its line.
 #[tactic(auto, unfolding(crate::specs::Drawing::column_text))]
 fn add_column(
     alloc: Global,
@@ -127,21 +127,27 @@ fn add_column(
     rows: usize,
     column: usize,
 ) -> Mem<()>
-    requires { column < node_count cluster }
     ensures { OnOk result (out.new ≡ out.old ++ column_text cluster rows column) }
 {
     add_marked(alloc, out, moved_to(), x_of(column) as u64)?;
-    add_name(alloc, out, cluster.node_at(column))?;
+    add_name(alloc, out, cluster, column)?;
     add_marked(alloc, out, life_open(), y_of(rows) as u64)?;
     out.add(life_close())
 }
 
+/// How many columns there are, with so many boards.
+fn columns_in(cluster: Cluster, boards: u8) -> usize
+    ensures { result ≡ columns_in cluster boards }
+{
+    cluster.count().saturating_add(usize::from(boards))
+}
+
 /// Appends all columns.
 #[tactic(auto, unfolding(crate::specs::Drawing::columns_text))]
-fn add_columns(alloc: Global, out: &mut Text, cluster: Cluster, rows: usize) -> Mem<()>
-    ensures { OnOk result (out.new ≡ out.old ++ columns_text cluster rows) }
+fn add_columns(alloc: Global, out: &mut Text, cluster: Cluster, boards: u8, rows: usize) -> Mem<()>
+    ensures { OnOk result (out.new ≡ out.old ++ columns_text cluster boards rows) }
 {
-    for column in 0..cluster.count() {
+    for column in 0..columns_in(cluster, boards) {
         add_column(alloc, out, cluster, rows, column)?;
     }
     Ok(())
@@ -269,38 +275,40 @@ fn add_style(out: &mut Text) -> Mem<()>
 
 /// Appends the head of the text: the size.
 #[tactic(auto, unfolding(crate::specs::Drawing::head_text))]
-fn add_head(alloc: Global, out: &mut Text, cluster: Cluster, rows: usize) -> Mem<()>
-    ensures { OnOk result (out.new ≡ out.old ++ head_text cluster rows) }
+fn add_head(alloc: Global, out: &mut Text, cluster: Cluster, boards: u8, rows: usize) -> Mem<()>
+    ensures { OnOk result (out.new ≡ out.old ++ head_text cluster boards rows) }
 {
-    add_marked(alloc, out, svg_open(), width_of(cluster.count()) as u64)?;
+    let width = width_of(columns_in(cluster, boards));
+    add_marked(alloc, out, svg_open(), width as u64)?;
     add_marked(alloc, out, svg_height(), height_of(rows) as u64)?;
     out.add(svg_font())
 }
 
 /// Appends what stands before the marks.
 #[tactic(auto, unfolding(crate::specs::Drawing::frame_text))]
-fn add_frame(alloc: Global, out: &mut Text, cluster: Cluster, rows: usize) -> Mem<()>
-    ensures { OnOk result (out.new ≡ out.old ++ frame_text cluster rows) }
+fn add_frame(alloc: Global, out: &mut Text, cluster: Cluster, boards: u8, rows: usize) -> Mem<()>
+    ensures { OnOk result (out.new ≡ out.old ++ frame_text cluster boards rows) }
 {
-    add_head(alloc, out, cluster, rows)?;
+    add_head(alloc, out, cluster, boards, rows)?;
     add_style(out)?;
     add_legend(alloc, out)?;
-    add_columns(alloc, out, cluster, rows)
+    add_columns(alloc, out, cluster, boards, rows)
 }
 
-/// The text of a picture of these rows.
+/// The text of a picture of these rows, with so many boards.
 #[tactic(auto, unfolding(crate::specs::Drawing::svg))]
 pub fn svg(
     alloc: Global,
     estate: &Estate<AnyNode>,
+    boards: u8,
     items: &[usize],
     rows: &[Row],
     marks: &[Mark],
 ) -> Mem<Text>
-    ensures { IfOk result (λ text. text ≡ svg estate.now items.now rows.now marks.now) }
+    ensures { IfOk result (λ text. text ≡ svg estate.now boards items.now rows.now marks.now) }
 {
     let mut out = Text::new(alloc);
-    add_frame(alloc, &mut out, estate.world.cluster, rows.len())?;
+    add_frame(alloc, &mut out, estate.world.cluster, boards, rows.len())?;
     add_marks(alloc, &mut out, estate, items, rows, marks)?;
     out.add(b"</svg>\n")?;
     Ok(out)

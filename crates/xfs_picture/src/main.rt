@@ -1,5 +1,5 @@
 //! Draws the run of a script over a simulated serverless file system: `xfs_picture` reads a script from standard input
-//! as `xfs run` does and writes one SVG, a chart of its messages. `README.md` shows one.
+//! as `xfs` does and writes one SVG, a chart of its messages. `README.md` shows one.
 #![tactic(auto)]
 
 use picture_call::picture;

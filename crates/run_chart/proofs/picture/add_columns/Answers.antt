@@ -8,7 +8,7 @@ pub loop-column-preserved : goal.loop-column-preserved
 loop-column-preserved c =
     let one = column_text c.args.cluster c.args.rows in
     let i = c.loop-column.column in
-    let end = c.count-column-end.result in
+    let end = c.columns_in-column-end.result in
     let rest = flat_map one (range_with_len (i + 1) (end - (i + 1))) in
     ap (λ front. front ++ rest) c.in_ok-add_column.ensures
     ∙ append_assoc c.loop-column.out (one i) rest
