@@ -46,9 +46,6 @@ fn run_once(alloc: Global, effects: &mut Effects, serving: &mut Serving) -> Mem<
     ensures effects { OnOk result (effects.new ≡ effects.old ++ (run_once serving.old).done.outs) }
     ensures goes { IfOk result (λ goes. goes ≡ (run_once serving.old).goes) }
 {
-    if serving.call.is_none() {
-        return Ok(false);
-    }
     let Some(call) = serving.call.take() else {
         return Ok(false);
     };

@@ -7,7 +7,6 @@ use crate::Stop;
 use crate::counting::unanswered_of;
 use play::Player;
 use std::alloc::Global;
-use std::mem;
 use version_model::Work;
 use xfs_base::{List, Mem, NodeId};
 
@@ -55,13 +54,13 @@ pub fn seat_of(stops: &List<Stop>, node: NodeId) -> Option<Seat>
 }
 
 /// Another stop in the place of one.
-pub fn set_stop(alloc: Global, stops: &mut List<Stop>, place: usize, stop: Stop)
+pub fn set_stop(stops: &mut List<Stop>, place: usize, stop: Stop)
     requires { place < length stops.old }
     ensures { stops.new ≡ slice_set stops.old place stop }
 {
-    let mut all = mem::replace(stops, List::new(alloc)).into_vec();
-    all[place] = stop;
-    drop(mem::replace(stops, List::from_vec(all)));
+    if let Some(kept) = stops.get_mut(place) {
+        *kept = stop;
+    }
 }
 
 /// So many servers, all of which run.
@@ -83,12 +82,12 @@ impl<N> Course<N> {
 
     /// A stopped server is started; one that runs stays as it is.
     #[tactic(auto, unfolding(crate::specs::Courses::course_wake))]
-    pub fn wake(&mut self, alloc: Global, node: NodeId)
+    pub fn wake(&mut self, node: NodeId)
         ensures { self.new ≡ course_wake self.old node }
     {
         if let Some(seat) = seat_of(&self.stops, node) {
             if seat.stop.stopped {
-                set_stop(alloc, &mut self.stops, seat.place, Stop::running());
+                set_stop(&mut self.stops, seat.place, Stop::running());
             }
         }
     }
@@ -101,7 +100,7 @@ impl<N> Course<N> {
     }
 
     // A stop is to come after so many writes and syncs.
-    fn stop(&mut self, alloc: Global, server: u8, passes: u32)
+    fn stop(&mut self, server: u8, passes: u32)
         ensures { self.new ≡ stops_at self.old (nodes.Server server) passes (seat_of self.old.stops (nodes.Server server)) }
     {
         let node = NodeId::Server(server);
@@ -111,17 +110,17 @@ impl<N> Course<N> {
                     stopped: false,
                     passes: Some(passes),
                 };
-                set_stop(alloc, &mut self.stops, seat.place, stop);
+                set_stop(&mut self.stops, seat.place, stop);
             }
         }
     }
 
     // A server is started, and no stop waits for it.
-    fn start(&mut self, alloc: Global, server: u8)
+    fn start(&mut self, server: u8)
         ensures { self.new ≡ started_at self.old (seat_of self.old.stops (nodes.Server server)) }
     {
         if let Some(seat) = seat_of(&self.stops, NodeId::Server(server)) {
-            set_stop(alloc, &mut self.stops, seat.place, Stop::running());
+            set_stop(&mut self.stops, seat.place, Stop::running());
         }
     }
 
@@ -134,16 +133,16 @@ impl<N> Course<N> {
 
     /// A line that is no item: it stops a server or starts one, or is told to the schedule.
     #[tactic(auto, unfolding(crate::specs::Courses::course_tell))]
-    pub fn tell(&mut self, alloc: Global, work: &Work)
+    pub fn tell(&mut self, work: &Work)
         ensures { self.new ≡ course_tell self.old work.now }
     {
         match work {
             Work::ServerStop { server, passes } => {
-                self.stop(alloc, *server, *passes);
+                self.stop(*server, *passes);
                 self.take(work);
             }
             Work::ServerStart(server) => {
-                self.start(alloc, *server);
+                self.start(*server);
                 self.drain();
             }
             _ => self.take(work),

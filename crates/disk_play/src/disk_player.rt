@@ -95,7 +95,7 @@ impl<N: Shelved> DiskPlayer<N> {
         let fate = seat.stop.fate_for(&call);
         let stop = seat.stop.left_by(&call);
         take_at(alloc, &mut self.shelves, seat, &what, call)?;
-        set_stop(alloc, &mut self.course.stops, seat.place, stop);
+        set_stop(&mut self.course.stops, seat.place, stop);
         self.course
             .settle(alloc, script, fate, Event::of(node, what), sent, done)
     }
@@ -131,7 +131,7 @@ impl<N: Shelved> DiskPlayer<N> {
         ensures stands { OnOk result (Stands N.transition N.first N.shelf_of script.now self.new.course self.new.shelves.items) }
         ensures one_more { OnOk result (self.new.course.player.unanswered ≤ self.old.course.player.unanswered + 1) }
     {
-        self.course.wake(alloc, node);
+        self.course.wake(node);
         self.course.player.unanswered += 1;
         self.happen(alloc, script, Event::Begin(node))?;
         self.course.drain();
@@ -221,7 +221,7 @@ impl<N: Shelved> DiskPlayer<N> {
         match actor_of(work) {
             Some(node) => self.begin(alloc, script, node),
             None => {
-                self.course.tell(alloc, work);
+                self.course.tell(work);
                 Ok(())
             }
         }

@@ -48,13 +48,13 @@ impl Merged {
     }
 
     /// Adds a moment of the node at a place. Nothing of it is copied.
-    pub(crate) fn add(&mut self, alloc: Global, place: usize, moment: Moment) -> Mem<()>
+    pub(crate) fn add(&mut self, place: usize, moment: Moment) -> Mem<()>
         requires node { place < node_count self.old.cluster }
         requires clock { place < length self.old.clocks }
         ensures { OnOk result (self.new ≡ merged_add self.old place moment) }
     {
         let node = self.cluster.node_at(place);
-        set_clock(alloc, &mut self.clocks, place, moment.clock);
+        set_clock(&mut self.clocks, place, moment.clock);
         let (what, packets, acts) = moment.into_told();
         keep_all(&mut self.sent, packets)?;
         note_all(&mut self.acts, acts)?;

@@ -129,6 +129,6 @@ pub fn merge<N: Member>(
             }
             Some(next) => next,
         };
-        merged.add(alloc, place, moment)?;
+        merged.add(place, moment)?;
     }
 }

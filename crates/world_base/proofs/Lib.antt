@@ -4,4 +4,3 @@ pub mod Places
 pub mod Ranges
 pub mod Standing
 pub mod Starting
-pub mod Turns

@@ -4,7 +4,6 @@ ghost use Rattle.world_base.specs.NextWorld.{clock_after, clock_at_most, sent_at
 
 use crate::Member;
 use std::alloc::Global;
-use std::mem;
 use version_model::Act;
 use wire_msg::{Do, Packet, SharedPacket};
 use xfs_base::{List, Mem};
@@ -32,6 +31,7 @@ pub fn clock_after(clock: u64, what: &Do) -> Option<u64>
 }
 
 /// Lets the node at a place have its turn: what it sends, with clock 0, and what it does.
+#[tactic(auto, unfolding(crate::specs::NextWorld::turn_of))]
 pub fn turn_of<N: Member>(
     alloc: Global,
     nodes: &mut List<N>,
@@ -41,10 +41,10 @@ pub fn turn_of<N: Member>(
     requires { place < length nodes.old }
     ensures { IfOk result (λ told. record { nodes = nodes.new; packets = told.0; acts = told.1 } ≡ turn_of N.transition nodes.old place what.now) }
 {
-    let mut all = mem::replace(nodes, List::new(alloc)).into_vec();
-    let told = all[place].step(alloc, what)?;
-    drop(mem::replace(nodes, List::from_vec(all)));
-    Ok(told)
+    match nodes.get_mut(place) {
+        None => Ok((List::new(alloc), List::new(alloc))),
+        Some(node) => node.step(alloc, what),
+    }
 }
 
 /// Puts packets behind those that were sent, with this clock.
@@ -75,11 +75,11 @@ pub fn note_all(done: &mut List<Act>, acts: List<Act>) -> Mem<()>
 }
 
 /// The clocks after an event of the node at a place.
-pub fn set_clock(alloc: Global, clocks: &mut List<u64>, place: usize, clock: u64)
+pub fn set_clock(clocks: &mut List<u64>, place: usize, clock: u64)
     requires { place < length clocks.old }
     ensures { clocks.new ≡ slice_set clocks.old place clock }
 {
-    let mut all = mem::replace(clocks, List::new(alloc)).into_vec();
-    all[place] = clock;
-    drop(mem::replace(clocks, List::from_vec(all)));
+    if let Some(kept) = clocks.get_mut(place) {
+        *kept = clock;
+    }
 }

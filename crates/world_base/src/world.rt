@@ -95,7 +95,7 @@ impl<N: Member> World<N> {
         let (packets, acts) = turn_of(alloc, &mut self.nodes, place, what)?;
         send_all(alloc, &mut self.sent, clock, packets)?;
         note_all(&mut self.acts, acts)?;
-        set_clock(alloc, &mut self.clocks, place, clock);
+        set_clock(&mut self.clocks, place, clock);
         Ok(())
     }
 
