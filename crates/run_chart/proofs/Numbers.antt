@@ -1,6 +1,5 @@
 -- The rows of a picture are numbered from 0 on.
-use Rattle.std.proofs.Common.{◌≡◌, ℕ, ◌+◌, Bool, List, [], ◌∷◌, ◌++◌, length, map, refl, arith}
-use Rattle.script_text.specs.declared.script.Script.{Script}
+use Rattle.std.proofs.Common.{◌≡◌, ℕ, ◌+◌, List, [], ◌∷◌, ◌++◌, length, map, arith}
 use Rattle.world_base.specs.declared.event.Event.{Event}
 use Rattle.world_base.specs.Events.{node_of}
 use Rattle.core_world.specs.AnyNode.{any_step}

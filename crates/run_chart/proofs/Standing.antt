@@ -12,7 +12,7 @@ use Rattle.xfs_base.proofs.Booleans.{by_test}
 use Rattle.run_chart.specs.declared.mark.Mark.{Mark}
 use Rattle.run_chart.specs.declared.mark.Mark.TheVariants as mark
 use Rattle.run_chart.specs.declared.row.Row.{Row}
-use Rattle.run_chart.specs.Marks.{MarksStandAtRows, StandAtRows, acts_from, arrow_at, comes, drawn_at, drawn_by, is_answer, labels_of, lost_from, marks_of, out_from, row_of, row_sent}
+use Rattle.run_chart.specs.Marks.{MarksStandAtRows, acts_from, arrow_at, comes, drawn_at, drawn_by, is_answer, labels_of, lost_from, marks_of, out_from, row_of, row_sent}
 use Rattle.run_chart.specs.Rows.{NumberedFrom}
 use Rattle.run_chart.specs.Stretches.{within}
 

@@ -16,7 +16,6 @@ use Rattle.world_base.specs.declared.cluster.Cluster.{Cluster}
 use Rattle.world_base.specs.declared.estate.Estate.{Estate}
 use Rattle.world_base.specs.declared.event.Event.{Event}
 use Rattle.world_base.specs.declared.event.Event.TheVariants.{Begin, Deliver, Tick}
-use Rattle.world_base.specs.Items.{actor_of}
 use Rattle.xfs_base.specs.declared.node.NodeId.{NodeId}
 use Rattle.xfs_base.specs.Limits.{u64_end}
 use Rattle.run_chart.specs.declared.label.Part.{Part}

@@ -1,5 +1,5 @@
 -- Where things stand in a picture, in pixels from its upper left corner: a column for each node, a row for each event that is drawn.
-use Rattle.std.specs.Prelude.{◌<◌, ℕ, ◌+◌, ◌*◌, min}
+use Rattle.std.specs.Prelude.{ℕ, ◌+◌, ◌*◌, min}
 use Rattle.xfs_base.specs.Limits.{u64_end}
 
 -- where this column's line stands
