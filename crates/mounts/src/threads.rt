@@ -87,11 +87,41 @@ fn bell_of<R: MountName, W: Wait>(
     }
 }
 
-/// An application's thread: it goes on until it has nothing left to do, or all workers have left, or memory is wanting
-/// somewhere. Where it can do nothing it sleeps until it is replied.
-fn apply<R: MountName, W: Wait, G: Gate>(
+/// Lets an application go on, and behind it its client, where no worker is there: so an answer that needs no other node
+/// comes without one.
+fn attend_both<N: Member, R: MountName, W: Wait, G: Gate>(
     rt: &W,
+    alloc: Global,
     seat: &Seat<Application<R>>,
+    clients: &[Seat<MountedCell<N, R>>],
+    place: usize,
+    gate: &G,
+) -> Found {
+    let (moved, over) = match attend(rt, seat, gate) {
+        Found::Nothing => return Found::Nothing,
+        Found::Application { moved, over } => (moved, over),
+    };
+    if over {
+        return Found::Application { moved, over };
+    }
+    let served = go_own(alloc, clients, place, clients.len(), gate);
+    if served.gone {
+        return Found::Nothing;
+    }
+    Found::Application {
+        moved: moved || served.moved,
+        over,
+    }
+}
+
+/// An application's thread: it goes on until it has nothing left to do, or all workers have left, or memory is wanting
+/// somewhere. Where neither it nor its client can do anything it sleeps until it is replied.
+fn apply<N: Member, R: MountName, W: Wait, G: Gate>(
+    rt: &W,
+    alloc: Global,
+    seat: &Seat<Application<R>>,
+    clients: &[Seat<MountedCell<N, R>>],
+    place: usize,
     flag: &Flag,
     workers: u8,
     gate: &G,
@@ -108,7 +138,7 @@ fn apply<R: MountName, W: Wait, G: Gate>(
             return;
         }
         let replies = bell.replies();
-        match attend(rt, seat, gate) {
+        match attend_both(rt, alloc, seat, clients, place, gate) {
             Found::Nothing => {
                 flag.raise();
                 return;
@@ -272,7 +302,7 @@ pub(crate) fn run_threads<
         for place in 0..applications.len() {
             let seat = &applications[place];
             if scope
-                .spawn(move || apply(rt, seat, raised, workers, gate))
+                .spawn(move || apply(rt, alloc, seat, clients, place, raised, workers, gate))
                 .is_err()
             {
                 all_started = false;
