@@ -1,9 +1,7 @@
 mod Wants
-pub mod Quiet
-mod Working
+pub mod Following
 mod Turning
-mod Granting
-mod Packets
+mod Turns
 mod Phases
 mod Openings
 mod Maps

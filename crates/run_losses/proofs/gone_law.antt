@@ -1,8 +1,7 @@
 mod Alone
 mod Slots
 mod Breaking
-mod Serving
-mod Events
+mod Losing
 mod Counts
 mod Told
 mod Laws

@@ -5,6 +5,7 @@
 ghost use Rattle.run_losses.specs.gone_law.Gones.{ClientsAreToldWhatWasLost, GonesAreOfBroken, ManagersSayGoneWhatTheyLost};
 
 use log_tie::settings_exist;
+use manager_moves::manager_events_are_moves;
 use run_laws::reading_law::readers_hold_what_came;
 use run_laws::world_law::nodes_are_seen;
 use run_laws::world_logs::runs_keep_logs;
@@ -23,6 +24,7 @@ pub fn gone_was_lost()
     ensures managers { ManagersSayGoneWhatTheyLost }
     ensures clients { ClientsAreToldWhatWasLost }
 {
+    manager_events_are_moves();
     settings_exist();
     runs_keep_logs();
     readers_hold_what_came();

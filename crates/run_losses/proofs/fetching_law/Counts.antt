@@ -64,9 +64,9 @@ use Rattle.run_losses.proofs.torn_law.Events.{base_at}
 use Rattle.run_losses.proofs.torn_law.Turns.{brought}
 use Rattle.headline.specs.Reads.{serving_at, serving_in, serving_of, what_is_read}
 use Rattle.run_losses.proofs.fetching_law.Maps.{ComesWell, ServesWell, StandsWell, comes_well, stands_first, stands_on}
-use Rattle.run_losses.proofs.fetching_law.Phases.{After, Served, event_serves}
+use Rattle.run_losses.proofs.fetching_law.Phases.{After, event_serves}
 use Rattle.run_losses.proofs.fetching_law.Truths.{AllReads, IsNamed, Reads, aside, comes_so}
-use Rattle.run_losses.proofs.fetching_law.Turning.{AllSay, Says, Sends}
+use Rattle.run_losses.proofs.fetching_law.Turning.{AllSay, Says, Sends, Turns}
 use Rattle.run_losses.proofs.torn_law.Course as course
 use Rattle.run_losses.proofs.torn_law.Course.{each_good, first_here}
 
@@ -224,7 +224,7 @@ module _ (base : Setting) (e : Estate AnyNode) (run : IsRun any_step any_start e
 
         -- it serves, and did
         module _ (s u : Serving) (served : node.phase ≡ Serves s) (serves : (takes node (what_of event)).state ≡ Serves u) (w : ServesWell (IsNamed e c) s)
-            (after : Served s (what_of event) u (takes node (what_of event)).outs) where
+            (after : Turns s (what_of event) u (takes node (what_of event)).outs) where
           read_so : (r : ReadingState) → reading_in u.call ≡ Some r → Reads e c (suc count) r
           read_so r read = by u.lasting.items.unanswered refl (after.waits (open_so u.call read))
             where

@@ -57,7 +57,7 @@ use Rattle.headline.specs.Reads.{BringsGone, serving_at, serving_in, what_is_rea
 use Rattle.run_losses.proofs.fetching_law.Counts.{AnswersTell, Good, GrantsAsked, Here, all_good, client_there, serving_is, was}
 use Rattle.run_losses.proofs.fetching_law.Maps.{ServesWell, StandsWell}
 use Rattle.run_losses.proofs.fetching_law.Phases.{After, event_serves}
-use Rattle.run_losses.proofs.fetching_law.Quiet.{NotLost}
+use Rattle.run_losses.proofs.fetching_law.Following.{NotLost}
 use Rattle.run_losses.proofs.fetching_law.Asked.{grants_are_asked}
 use Rattle.run_losses.proofs.fetching_law.Wants.{Above, Later}
 use Rattle.run_losses.proofs.fetching_law.Truths.{Doubt, IsNamed, Reads, Renewed}

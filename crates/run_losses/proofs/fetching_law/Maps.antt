@@ -22,6 +22,7 @@ use Rattle.node_base.specs.declared.effects.Effect.{Effect}
 use Rattle.node_base.specs.declared.maps.Maps.{Maps}
 use Rattle.node_base.specs.declared.peers.Peers.{Peers}
 use Rattle.node_base.specs.Shape.{is_well_formed}
+use Rattle.node_moves.specs.server_moves.Moves.{news_in}
 use Rattle.version_model.specs.declared.work.Work.{Work}
 use Rattle.version_model.specs.declared.work.Work.TheVariants as work
 use Rattle.wire_msg.specs.declared.body.Body.{Body}
@@ -33,8 +34,8 @@ use Rattle.xfs_base.specs.declared.setup.Setup.{Setup}
 use Rattle.xfs_base.specs.Steps.{still}
 use Rattle.headline.specs.Reads.{serving_in}
 use Rattle.run_losses.proofs.fetching_law.Openings.{ProgressKnows, maps_taken, packet_knows, time_knows}
-use Rattle.run_losses.proofs.fetching_law.Phases.{After, WaitsFor, event_serves}
-use Rattle.run_losses.proofs.fetching_law.Turning.{Bears, NewMaps}
+use Rattle.run_losses.proofs.fetching_law.Phases.{After, event_serves}
+use Rattle.run_losses.proofs.fetching_law.Turning.{NewMaps, WaitsFor}
 
 module _ (Is : GroupMapState → Type 0) where
   pub record ServesWell (s : Serving) : Type 0 where
@@ -108,10 +109,13 @@ module _ (Is : GroupMapState → Type 0) where
 
   -- ---- one that serves
 
-  brings_bears : (s : Serving) (what : Do) (news : News) (b : Body) → Bears s what news b → BringsMaps Is b → Is news.groups
-  brings_bears s what news (body.MapNews m) fact brings = subst (λ (n : News). Is n.groups) fact brings
-  brings_bears s what news (body.Welcome m) fact brings = subst (λ (n : News). Is n.groups) fact brings
-  brings_bears s what news _ fact brings = absurd fact
+  one_news : (a b : News) → Some a ≡ Some b → Is a.groups → Is b.groups
+  one_news a b same so = subst (λ (n : News). Is n.groups) (let e : a ≡ b = cc in e) so
+
+  brings_such : (news : News) (b : Body) → news_in b ≡ Some news → BringsMaps Is b → Is news.groups
+  brings_such news (body.MapNews m) fact brings = one_news m news fact brings
+  brings_such news (body.Welcome m) fact brings = one_news m.news news fact brings
+  brings_such news _ fact brings = absurd (let clash : None ≡ Some news = fact in cc)
 
   serves_on : (s : Serving) → ServesWell s → (what : Do) → DoBrings Is what → (p : Phase) (outs : List Effect) → After s what p outs → StandsWell p
   serves_on s h what brings (Down l) outs a = tt
@@ -122,7 +126,7 @@ module _ (Is : GroupMapState → Type 0) where
       by (inl same) = subst (λ (m : Maps). KnowsSuch Is m.groups) (sym same) h.known
       by (inr n) =
           subst (λ (m : Maps). KnowsSuch Is m.groups) (sym n.now)
-          (maps_taken Is s.maps n.news h.known (brings_bears s what n.news n.packet.body n.bears (subst (DoBrings Is) n.delivers brings)))
+          (maps_taken Is s.maps n.news h.known (brings_such n.news n.packet.body n.brought.brings (subst (DoBrings Is) n.brought.event brings)))
 
   module _ (client : Client) (what : Do) (brings : DoBrings Is what) where
     -- what comes of an event, or what was

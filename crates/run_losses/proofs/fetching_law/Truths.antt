@@ -3,6 +3,8 @@ use Rattle.std.proofs.Common.{◌≡◌, ◌⊎◌, ⊎_elim, ℕ, suc, ◌<◌,
 use Rattle.std.proofs.lemmas.Bool.Decides.{nat_tests}
 use Rattle.node_slots.specs.client_law.Grouped.{KnowsSuch}
 use Rattle.client_call.specs.Reads.{reading_in}
+use Rattle.client_moves.specs.Moves.{Tells, heard_step}
+use Rattle.client_moves.specs.Moves.Tells.{AbsenceCame, FragmentCame}
 use Rattle.client_serving.specs.declared.serving.Serving.{Serving}
 use Rattle.client_serving.specs.Reads.{group_in}
 use Rattle.core_world.specs.AnyNode.{any_start, any_step}
@@ -14,7 +16,6 @@ use Rattle.log_tie.specs.Setting.{stripe_of_group}
 use Rattle.loss_law.proofs.Pairs.{ToldSo}
 use Rattle.run_losses.proofs.missing_law.Readings.{AsksOf, IsOut, ReadingTrue, RoundTrue, StageTrue, TornUnlessDeleted, answer_keeps_target, answered_true, begun_since, confirmed_true, number_then, out_fresh, out_next, reading_later, told_of}
 use Rattle.run_losses.specs.missing_law.Missed.{Answers, FetchesDrawn, MissedIn, last_at}
-use Rattle.node_tellings.specs.reading_tie.Arrivals.{Tells}
 use Rattle.segment_reading.specs.declared.reading.Stage as rounds
 use Rattle.segment_reading.specs.declared.reading.Next.TheVariants.{Again, Wait}
 use Rattle.segment_reading.specs.declared.reading.Stage.TheVariants.{Asking, Between, Doubted, Over}
@@ -24,13 +25,11 @@ use Rattle.segment_reading.specs.Reading.{ReadingState, Step, reading_start, cou
 use Rattle.stripe_code.specs.declared.round.RoundState.{RoundState}
 use Rattle.stripe_code.specs.declared.round.RoundState.TheVariants as round
 use Rattle.stripe_code.specs.declared.round.Told.{Told as Answered}
-use Rattle.stripe_code.specs.declared.round.Told.TheVariants as answered
 use Rattle.stripe_code.specs.Round.{state_of, round_take}
 use Rattle.segment_format.specs.declared.segment.Segment.{Segment}
 use Rattle.segment_format.specs.ReadingItems.{answer_of}
 use Rattle.token_client.specs.State.{epoch_of}
 use Rattle.token_protocol.specs.Basics.{In}
-use Rattle.wire_msg.specs.declared.body.Body.{Body}
 use Rattle.wire_msg.specs.declared.body.Body.TheVariants as body
 use Rattle.wire_msg.specs.declared.packet.Do.{Do}
 use Rattle.wire_msg.specs.declared.packet.Do.TheVariants.{Deliver}
@@ -213,18 +212,11 @@ module _ (e : Estate AnyNode) (c : ℕ) where
 
       -- what a server told was so since each moment at which the question was not drawn
       told_true : (was : ReadingState) (h : Reads count was) (server ask : ℕ) (p : Packet) → In p (moment e count).sent → p.from ≡ nodes.Server server
-          → p.to ≡ reader → (x : Answered) → (b : Body) → p.body ≡ b → Tells ask x b → (on : RoundTrue e reader h.since count was.ask was) → ask ≡ was.ask
+          → p.to ≡ reader → (x : Answered) → Tells p.body ask x → (on : RoundTrue e reader h.since count was.ask was) → ask ≡ was.ask
           → ToldSo (λ v generation. MissedIn e on.drawn count v generation was.target.seg.name) server x
-      told_true was h server ask p among from to (answered.Held f) b fact tells on same = tt
-      told_true was h server ask p among from to (answered.Missing g) (body.Missing m) fact tells on same =
-          subst (λ z. MissedIn e on.drawn count server z was.target.seg.name) (sym (one_generation g m.generation tells.1))
-          (told_of e reader count was.ask server was.target.seg.name m h.out (answers server p m among from to fact) (tells.0
-          ∙ same) on.drawn on.until on.fresh)
-        where
-          one_generation : (x y : ℕ) → answered.Missing x ≡ answered.Missing y → x ≡ y
-          one_generation x y e = cc
-      told_true was h server ask p among from to (answered.Missing g) (body.Fragment m) fact tells on same = absurd (let clash = tells.1 in cc)
-      told_true was h server ask p among from to (answered.Missing g) _ fact tells on same = absurd tells
+      told_true was h server ask p among from to x (FragmentCame m says) on same = tt
+      told_true was h server ask p among from to x (AbsenceCame m says) on same =
+          told_of e reader count was.ask server was.target.seg.name m h.out (answers server p m among from to says) same on.drawn on.until on.fresh
 
       module _ (r : ReadingState) (read : reading_in t.call ≡ Some r) (item : ℕ) (now_open : t.lasting.items.unanswered ≡ Some item)
           (same : t.lasting.items.unanswered ≡ s.lasting.items.unanswered) (asks : AsksOf e reader new r.ask r.target.seg.name) where
@@ -235,15 +227,14 @@ module _ (e : Estate AnyNode) (c : ℕ) where
         still_open i opens = ap open_item is_there ∙ (same ∙ (sym (ap open_item was_there) ∙ opens))
 
         -- a second round has ended by what was told
-        doubts_now : (x : Told s what t.tokens r) (h : Reads count x.was)
-            → ReadingTrue e reader h.since count x.was.ask (reading_take x.was x.groups x.ask x.server x.told).state
-            → (reading_take x.was x.groups x.ask x.server x.told).state.stage ≡ Doubted → (reading_take x.was x.groups x.ask x.server x.told).next ≡ Again
-            → Doubt h.since (suc count) x.was.target
+        doubts_now : (x : Told s what t.tokens r) (h : Reads count x.heard.was)
+            → ReadingTrue e reader h.since count x.heard.was.ask (heard_step what s x.heard).state
+            → (heard_step what s x.heard).state.stage ≡ Doubted → (heard_step what s x.heard).next ≡ Again → Doubt h.since (suc count) x.heard.was.target
         doubts_now x h so doubted again = record {
           when = count;
           until = omega arith;
-          torn = subst (λ (y : Target). TornUnlessDeleted e h.since count y.seg) (answer_keeps_target x.was x.groups x.ask x.server x.told).0
-              (subst (StageTrue e reader h.since count x.was.ask (reading_take x.was x.groups x.ask x.server x.told).state) doubted so.stage);
+          torn = subst (λ (y : Target). TornUnlessDeleted e h.since count y.seg) (answer_keeps_target x.heard.was x.heard.groups x.heard.ask x.heard.server x.heard.told).0
+              (subst (StageTrue e reader h.since count x.heard.was.ask (heard_step what s x.heard).state) doubted so.stage);
           renewed = λ at block. record {
             life = s.tokens.inc;
             highest = s.tokens.req;
@@ -257,24 +248,24 @@ module _ (e : Estate AnyNode) (c : ℕ) where
         -- a server told something
         told_so : Told s what t.tokens r → Reads (suc count) r
         told_so x =
-            let h : Reads count x.was = read_before x.was x.reads in
-            let got = gets x.packet x.delivers in
-            let kept = answer_keeps_target x.was x.groups x.ask x.server x.told in
-            let target : r.target ≡ x.was.target = ap (λ (y : ReadingState). y.target) x.now ∙ kept.0 in
-            let ask : r.ask ≡ x.was.ask = ap (λ (y : ReadingState). y.ask) x.now ∙ kept.1 in
-            let so : ReadingTrue e reader h.since count x.was.ask (reading_take x.was x.groups x.ask x.server x.told).state =
-            answered_true e reader run h.since count x.was.ask x.was h.so x.groups x.ask x.server x.told
-            (told_true x.was h x.server x.ask x.packet got.0 x.from got.1 x.told x.packet.body refl x.tells) in
-            reads_on r x.was target h still_open now_read
+            let h : Reads count x.heard.was = read_before x.heard.was x.heard.reads in
+            let got = gets x.heard.packet x.heard.event in
+            let kept = answer_keeps_target x.heard.was x.heard.groups x.heard.ask x.heard.server x.heard.told in
+            let target : r.target ≡ x.heard.was.target = ap (λ (y : ReadingState). y.target) x.now ∙ kept.0 in
+            let ask : r.ask ≡ x.heard.was.ask = ap (λ (y : ReadingState). y.ask) x.now ∙ kept.1 in
+            let so : ReadingTrue e reader h.since count x.heard.was.ask (heard_step what s x.heard).state =
+            answered_true e reader run h.since count x.heard.was.ask x.heard.was h.so x.heard.groups x.heard.ask x.heard.server x.heard.told
+            (told_true x.heard.was h x.heard.server x.heard.ask x.heard.packet got.0 x.heard.from got.1 x.heard.told x.heard.tells) in
+            reads_on r x.heard.was target h still_open now_read
             (reading_later e reader h.since count (suc count) r.ask r (omega arith)
-            (subst (λ n. ReadingTrue e reader h.since count n r) (sym ask) (subst (ReadingTrue e reader h.since count x.was.ask) (sym x.now) so)))
+            (subst (λ n. ReadingTrue e reader h.since count n r) (sym ask) (subst (ReadingTrue e reader h.since count x.heard.was.ask) (sym x.now) so)))
             (out_next e reader count r.ask r.target.seg.name new sent rises asks
             (subst (λ n. IsOut e reader count n r.target.seg.name) (sym ask)
-            (subst (λ (y : Target). IsOut e reader count x.was.ask y.seg.name) (sym target) h.out)))
+            (subst (λ (y : Target). IsOut e reader count x.heard.was.ask y.seg.name) (sym target) h.out)))
             (λ doubted. subst (Doubt h.since (suc count)) (sym target)
-            (⊎_elim (λ before. doubt_on wants_on h.since x.was.target (h.doubt before))
+            (⊎_elim (λ before. doubt_on wants_on h.since x.heard.was.target (h.doubt before))
             (λ again. doubts_now x h so (sym (ap (λ (y : ReadingState). y.stage) x.now) ∙ doubted) again)
-            (doubt_comes x.was x.groups x.ask x.server x.told (sym (ap (λ (y : ReadingState). y.stage) x.now) ∙ doubted))))
+            (doubt_comes x.heard.was x.heard.groups x.heard.ask x.heard.server x.heard.told (sym (ap (λ (y : ReadingState). y.stage) x.now) ∙ doubted))))
 
         -- a question is out that is drawn now
         out_now : s.lasting.questions.last < t.lasting.questions.last → r.ask ≡ t.lasting.questions.last → IsOut e reader (suc count) r.ask r.target.seg.name

@@ -1,24 +1,23 @@
 -- At each count of every run: a slot that is broken was lost before, while it was taken over in its epoch, and so was what each Gone names.
-use Rattle.std.proofs.Common.{◌≡◌, ⊎_elim, ℕ, zero, suc, List, [], ◌∷◌, ◌++◌, Option, Some, map, drop, length, slice_get, ◌==◌, inl, inr, sym, ap, subst, ◌∙◌, arith}
-use Rattle.std.specs.List.{AllByRecursion}
+use Rattle.std.proofs.Common.{◌≡◌, ⊎_elim, ℕ, suc, List, [], ◌∷◌, ◌++◌, Option, Some, map, drop, length, slice_get, ◌==◌, inl, inr, sym, ap, subst, ◌∙◌, arith}
 use Rattle.std.specs.Prelude.{All}
 use Rattle.core_world.specs.AnyNode.{any_start, any_step}
 use Rattle.core_world.specs.declared.any_node.AnyNode.{AnyNode}
 use Rattle.core_world.specs.declared.any_node.AnyNode.TheVariants as any
 use Rattle.log_tie.specs.Setting.{Setting}
+use Rattle.manager_moves.specs.Moves.{ManagerEventsAreMoves}
 use Rattle.manager_map.specs.Slots.{entry_at, manager_map_start}
 use Rattle.manager_node.specs.declared.manager.Manager.{Manager as ManagerNode}
 use Rattle.manager_node.specs.Events.{manager_start, happens}
 use Rattle.manager_node.specs.Phases.{Went_to, lasting_of}
-use Rattle.manager_slots.specs.declared.slot_phase.SlotPhase.{SlotPhase}
 use Rattle.manager_slots.specs.declared.slot_phase.SlotPhase.TheVariants as phase
 use Rattle.manager_slots.specs.declared.slot_phase.Taking.{Taking}
 use Rattle.manager_slots.specs.Slots.{first_active}
-use Rattle.manager_slots.specs.SlotTable.{Table, first_phase, slot_table_first}
+use Rattle.manager_slots.specs.SlotTable.{first_phase, slot_table_first}
 use Rattle.node_base.specs.declared.effects.Effect.{Effect}
 use Rattle.node_base.specs.declared.effects.Effect.TheVariants.{Send, Answer, Lose, Does}
 use Rattle.node_base.specs.Effects.{acts_of}
-use Rattle.headline.specs.Managers.{phase_at, slot_in}
+use Rattle.headline.specs.Managers.{slot_in}
 use Rattle.run_laws.specs.reading_law.Readings.{ReadingsCame}
 use Rattle.token_protocol.specs.Basics.{In}
 use Rattle.version_model.specs.declared.act.Act.TheVariants as act
@@ -49,10 +48,14 @@ use Rattle.xfs_base.specs.declared.setup.Setup.{Setup}
 use Rattle.run_losses.proofs.torn_law.Counts.{TurnAt, moment_next}
 use Rattle.run_losses.proofs.taking_law.Always.{slot_is}
 use Rattle.run_losses.proofs.taking_law.Losing.{done_after, earned}
+use Rattle.run_losses.proofs.taking_law.ManagerTurns.{PhaseFine}
+use Rattle.run_losses.proofs.taking_law.ServingTurns.{Fine}
+use Rattle.run_losses.proofs.taking_law.SlotReads.{LostFrom}
 use Rattle.run_losses.proofs.taking_law.ManagerCounts.{CameBy, IsManager, IsNamed, NodeFine, Turned as NodeTurned, all_good, do_brought, is_manager, turned}
 use Rattle.headline.specs.Takeovers.{slot_at, slot_of}
-use Rattle.run_losses.proofs.gone_law.Breaking.{Breaks}
-use Rattle.run_losses.proofs.gone_law.Events.{Turned, gones_are_of_broken, manager_turned}
+use Rattle.run_losses.proofs.gone_law.Losing.{lost_from}
+use Rattle.run_losses.proofs.gone_law.Breaking.{Breaks, Turned, gones_are_of_broken, manager_turned}
+use Rattle.run_losses.proofs.gone_law.Slots.{IsWhole, here_is, whole_at}
 use Rattle.run_losses.specs.gone_law.Gones.{BrokenSlotsWereLost, GonesWereLost, IfGone, IsOfBroken}
 use Rattle.headline.specs.Reads.{SaidLost}
 use Rattle.run_losses.proofs.torn_law.Course.{each_good, first_here, none_sent, was}
@@ -85,17 +88,6 @@ module _ (owner node : NodeId) (same : owner ≡ node) (name : SegName) where
 
 -- ---- at the start of a run no slot is broken
 
-abbrev IsWhole : SlotPhase → Type 0
-IsWhole (phase.Broken epoch seg) = ⊥
-IsWhole (phase.Taking t) = Unit {0}
-IsWhole (phase.Away epoch) = Unit {0}
-IsWhole (phase.Active a) = Unit {0}
-
-whole_at : (t : Table) → AllByRecursion IsWhole t → (k : ℕ) → IsWhole (phase_at t k)
-whole_at [] all k = tt
-whole_at (p ∷ t) all zero = all.0
-whole_at (p ∷ t) all (suc k) = whole_at t all.1 k
-
 first_whole : (number : ℕ) (setup : Setup) (works : List Work) (k : ℕ) → IsWhole (slot_in k (manager_start number setup works).phase)
 first_whole number setup works k =
     whole_at (slot_table_first number setup.managers) (one 0, (one 1, (one 2, (one 3, (one 4, (one 5, (one 6, (one 7, tt)))))))) k
@@ -103,8 +95,9 @@ first_whole number setup works k =
     one : (slot : ℕ) → IsWhole (first_phase number (manager_map_start setup.managers) slot)
     one slot = by_test IsWhole ((entry_at (manager_map_start setup.managers) (slot_of_ino slot)).manager == number) first_active (phase.Away 1) (λ _. tt) (λ _. tt)
 
-module _ (base : Setting) (e : Estate AnyNode) (run : IsRun any_step any_start e.script e.events e.world) (lines : HasLines base e) (j : ℕ)
-    (is_there : IsThere e.script.setup.clients e.script.setup.managers (OfManager j)) (came : (k : ℕ) → ReadingsCame e.world (moment e k)) where
+module _ (moves : ManagerEventsAreMoves) (base : Setting) (e : Estate AnyNode) (run : IsRun any_step any_start e.script e.events e.world)
+    (lines : HasLines base e) (j : ℕ) (is_there : IsThere e.script.setup.clients e.script.setup.managers (OfManager j))
+    (came : (k : ℕ) → ReadingsCame e.world (moment e k)) where
   abbrev k_of : Cluster
   k_of = cluster_of e.script.setup
 
@@ -159,10 +152,8 @@ module _ (base : Setting) (e : Estate AnyNode) (run : IsRun any_step any_start e
       abbrev went : Went_to
       went = happens u.node (what_of event)
 
-      turn : Turned (Unit {0}) (IsNamed e) (CameBy e j count) u.node.phase (happens u.node (what_of event))
-      turn =
-          manager_turned (Unit {0}) (IsNamed e) (CameBy e j count) u.node (what_of event)
-          (λ _. subst (NodeFine e) u.was (all_good base e run lines j is_there count).fine) (λ _. do_brought base e run lines j is_there count event fact own)
+      turn : Turned (what_of event) u.node.phase (happens u.node (what_of event)).state (happens u.node (what_of event)).outs
+      turn = manager_turned moves u.node (what_of event)
 
       slot_before : (slot : ℕ) → slot_at e j slot count ≡ slot_in slot u.node.phase
       slot_before slot = its_slot slot count ∙ ap (slot_of slot) u.was
@@ -181,28 +172,37 @@ module _ (base : Setting) (e : Estate AnyNode) (run : IsRun any_step any_start e
           ∙ (ap (drop (length (moment e count).acts)) t.acts_are ∙ (done_after (moment e count).acts (any_step t.node (what_of event)).acts ∙ u.acts))
 
       -- the slot breaks in this event
-      breaks : (slot epoch : ℕ) (name : SegName)
-          → slot_at e j slot (suc count) ≡ phase.Broken epoch name
-          → Breaks (Unit {0}) (IsNamed e) (CameBy e j count) (slot_in slot u.node.phase) epoch name (happens u.node (what_of event)).outs
-          → SaidLost e j (suc count) slot epoch name
-      breaks slot epoch name broke b =
-          let l = b.lost tt in
-          let w = earned base e run lines j is_there came count event (map (sent_at t.clock) (any_step t.node (what_of event)).packets)
-          (any_step t.node (what_of event)).acts u name slot l in
-          record {
-            when = count;
-            before = omega arith;
-            event = event;
-            happens = fact;
-            own = own;
-            says = subst (In (act.Lost (names.Manager j) name)) (sym acts_are)
-                (lost_acts (names.Manager j) (names.Manager (lasting_of u.node.phase).number) (ap names.Manager (sym number)) name
-                (happens u.node (what_of event)).outs b.says);
-            was = w.0;
-            of_slot = w.1;
-            in_epoch = w.2 ∙ (ap (λ (x : Taking). x.epoch) (same_taking l.taking b.taking (sym l.takes ∙ b.takes)) ∙ b.in_epoch);
-            broke = broke;
-          }
+      module _ (slot epoch : ℕ) (name : SegName) (broke : slot_at e j slot (suc count) ≡ phase.Broken epoch name)
+          (b : Breaks (what_of event) u.node.phase slot epoch name (happens u.node (what_of event)).outs) where
+        fine : Fine (IsNamed e) b.serving
+        fine = subst (PhaseFine (IsNamed e)) b.serves (subst (NodeFine e) u.was (all_good base e run lines j is_there count).fine)
+
+        l : LostFrom (IsNamed e) (CameBy e j count) (slot_in slot u.node.phase) name
+        l = subst (λ p. LostFrom (IsNamed e) (CameBy e j count) (slot_in slot p) name) (sym b.serves)
+            (lost_from (IsNamed e) (CameBy e j count) (what_of event) (do_brought base e run lines j is_there count event fact own) b.serving fine slot
+            b.taking b.given b.answered name b.alone)
+
+        taken : slot_in slot u.node.phase ≡ phase.Taking b.taking
+        taken = ap (slot_in slot) b.serves ∙ here_is b.serving.slots slot (phase.Taking b.taking) b.answered.here
+
+        breaks : SaidLost e j (suc count) slot epoch name
+        breaks =
+            let w = earned base e run lines j is_there came count event (map (sent_at t.clock) (any_step t.node (what_of event)).packets)
+            (any_step t.node (what_of event)).acts u name slot l in
+            record {
+              when = count;
+              before = omega arith;
+              event = event;
+              happens = fact;
+              own = own;
+              says = subst (In (act.Lost (names.Manager j) name)) (sym acts_are)
+                  (lost_acts (names.Manager j) (names.Manager (lasting_of u.node.phase).number) (ap names.Manager (sym number)) name
+                  (happens u.node (what_of event)).outs b.says);
+              was = w.0;
+              of_slot = w.1;
+              in_epoch = w.2 ∙ (ap (λ (x : Taking). x.epoch) (same_taking l.taking b.taking (sym l.takes ∙ taken)) ∙ b.in_epoch);
+              broke = broke;
+            }
 
       its_node : t.node ≡ any.Manager u.node
       its_node =
@@ -214,7 +214,7 @@ module _ (base : Setting) (e : Estate AnyNode) (run : IsRun any_step any_start e
           at_clock t.clock (λ (p : Packet). IfGone (IsOfBroken u.node.phase) p.body) (λ (p : Packet). IfGone (IsOfBroken u.node.phase) p.body) (λ q h. h)
           (any_step t.node (what_of event)).packets
           (subst (λ (x : AnyNode). All (λ (p : Packet). IfGone (IsOfBroken u.node.phase) p.body) (any_step x (what_of event)).packets) (sym its_node)
-          (gones_are_of_broken u.node (what_of event))) p late
+          (gones_are_of_broken moves u.node (what_of event))) p late
 
       own_turn : Good (suc count)
       own_turn = record {

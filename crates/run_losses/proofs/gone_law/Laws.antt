@@ -1,5 +1,6 @@
 -- What a manager says is gone, and what a client says is lost for it, in every run.
 use Rattle.log_tie.specs.Setting.{Setting}
+use Rattle.manager_moves.specs.Moves.{ManagerEventsAreMoves}
 use Rattle.run_laws.specs.reading_law.Readings.{RunsReadWhatCame}
 use Rattle.run_laws.proofs.world_law.Laws.{NodeLaws}
 use Rattle.run_laws.specs.world_logs.Lines.{RunsHaveLines}
@@ -8,6 +9,7 @@ use Rattle.run_losses.proofs.gone_law.Told.{told_lost}
 use Rattle.run_losses.specs.gone_law.Gones.{ClientsAreToldWhatWasLost, ManagersSayGoneWhatTheyLost}
 
 pub record Below : Type 0 where
+  pub moves : ManagerEventsAreMoves
   pub setting : Setting
   pub lines : RunsHaveLines
   pub came : RunsReadWhatCame
@@ -15,8 +17,8 @@ pub record Below : Type 0 where
 
 pub managers_lost : Below → ManagersSayGoneWhatTheyLost
 managers_lost below e ok run j is_there = (
-  broken_were_lost below.setting e run (below.lines below.setting e ok run) j is_there (below.came e ok run),
-  gones_were_lost below.setting e run (below.lines below.setting e ok run) j is_there (below.came e ok run),
+  broken_were_lost below.moves below.setting e run (below.lines below.setting e ok run) j is_there (below.came e ok run),
+  gones_were_lost below.moves below.setting e run (below.lines below.setting e ok run) j is_there (below.came e ok run),
 )
 
 pub clients_told : Below → ClientsAreToldWhatWasLost

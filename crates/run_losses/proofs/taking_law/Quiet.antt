@@ -33,7 +33,7 @@ use Rattle.xfs_base.specs.declared.segment.LogId.{LogId}
 use Rattle.xfs_base.specs.declared.segment.SegRef.{SegRef}
 use Rattle.xfs_base.specs.Steps.{Stepped, steps, still}
 use Rattle.xfs_base.proofs.Alls.{all_append, all_flat_map}
-pub use Rattle.run_losses.proofs.fetching_law.Quiet.{AllQuiet, IsQuiet, NoFetch, NotLost}
+pub use Rattle.run_losses.proofs.fetching_law.Following.{AllQuiet, IsQuiet, NoFetch, NotLost}
 
 -- ---- what is done
 
