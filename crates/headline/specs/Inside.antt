@@ -5,10 +5,12 @@ use Rattle.headline.specs.Beliefs.{BelievedThroughout}
 use Rattle.headline.specs.Boots.{TheCleanerFilesOne}
 use Rattle.headline.specs.Deletions.{DeletesBelowHorizons, DropsWhatItDeletes}
 use Rattle.headline.specs.Falls.{NobodyHoldsThroughout}
+use Rattle.headline.specs.Filings.{ClientsFileOn}
 use Rattle.headline.specs.Horizons.{HorizonsReached}
 use Rattle.headline.specs.Indexes.{IndexesAreItsOwn}
 use Rattle.headline.specs.Managers.{OneManagerThroughout}
 use Rattle.headline.specs.Owners.{OneOwnerThroughout}
+use Rattle.headline.specs.Repeats.{EachIsRepeated}
 use Rattle.headline.specs.Replies.{AnswersQuestions}
 use Rattle.headline.specs.Segments.{CleanersLogStands, LogsStand, ManagersLogsStand}
 use Rattle.headline.specs.Stripes.{FiledIsReadBack}
@@ -31,6 +33,8 @@ pub record InsideIsSafe (e : Estate AnyNode) : Type 0 where
   -- a client whose call is open has asked for what the call lacks, at each moment, and sends each want again whenever time passes
   pub calls_wait : CallsWait e
   pub wants_again : WantsAgain e
+  -- and so do clients, managers and the cleaner what of their logs isn't acknowledged, recalls and polls that aren't answered, and checkpoints
+  pub repeated : EachIsRepeated e
   -- a server, a manager and the registry answer what they are asked in the event in which it comes, and a shelf changes only as it is asked to
   pub questions_answered : AnswersQuestions e
   -- what was filed, and was not deleted, stands on the servers' shelves but for lost disks, and one name has one text: in the logs of each kind of owner
@@ -41,6 +45,8 @@ pub record InsideIsSafe (e : Estate AnyNode) : Type 0 where
   pub read_back : FiledIsReadBack e
   -- and where the cleaner comes back, no two segments of its new incarnation were filed
   pub restarts_file_one : TheCleanerFilesOne e
+  -- each segment that a client files while it serves is of its own log and of the incarnation that opened it, and numbered behind the one that it filed last
+  pub clients_file_on : ClientsFileOn e
   -- and the least horizon that the registry keeps of a client's log, or of the cleaner's, is 1 at most, or at most one beyond a segment that its owner filed
   pub horizons_filed : HorizonsReached e
   -- what servers were told to delete was dropped in an act by then, and is below the least horizon of its log that the registry keeps; what the cleaner drops in

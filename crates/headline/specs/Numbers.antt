@@ -12,6 +12,7 @@ use Rattle.group_rebuild.specs.declared.wanted.Wanted.{Wanted}
 use Rattle.group_rebuild.specs.Transition.{listed_with, remove_names}
 use Rattle.group_rebuild.specs.Wanted.{wanted_in}
 use Rattle.node_base.specs.Beginning.{next_item}
+use Rattle.store_nodes.specs.declared.server.Rebuilding.{Rebuilding}
 use Rattle.store_nodes.specs.declared.server.Server.{Server as Node}
 use Rattle.stripe_code.specs.declared.round.Answer.{Answer as Reply}
 use Rattle.stripe_code.specs.declared.round.RoundState.{RoundState}
@@ -53,6 +54,15 @@ pub record BeganAt (e : Estate AnyNode) (name : NodeId) (item place : ℕ) : Typ
   pub its : node_named (moment e place) name ≡ Some node
   pub next : next_item (items_in node) ≡ Some item
 
+-- of a segment, where a fragment was told
+abbrev pub IsToldOf : Wanted → Told → Type 0
+IsToldOf w (told.Held fragment) = fragment.meta.name ≡ w.meta.name
+IsToldOf w (told.Missing generation) = Unit {0}
+
+-- another member of the segment's group replied, and a fragment that it told is one of the segment
+abbrev pub IsReplyOf : Wanted → Reply → Type 0
+IsReplyOf w r = In r.server w.others × IsToldOf w r.told
+
 -- of a server, by the events behind the one at a place and before the one at another
 module _ (e : Estate AnyNode) (server begun end : ℕ) where
   -- this came to it from another server
@@ -71,10 +81,11 @@ module _ (e : Estate AnyNode) (server begun end : ℕ) where
   HasTold from (told.Held fragment) = (found : Found) × HasCome from (body.Fragment found) × (found.fragment ≡ fragment)
   HasTold from (told.Missing generation) = (missing : Missing) × HasCome from (body.Missing missing) × (missing.generation ≡ generation)
 
-  -- so a round over the other members of a segment's group stands, by what these told
+  -- So a round over the other members of a segment's group stands, by what these told: each fragment in it is one of the segment.
   pub record RoundStands (w : Wanted) (stands : RoundState) : Type 0 where
     pub replies : List Reply
     pub come : AllByRecursion (λ (r : Reply). HasTold r.server r.told) replies
+    pub fit : AllByRecursion (IsReplyOf w) replies
     pub is : state_of (record { n = w.n; parity = w.parity; servers = w.others; answers = replies }) ≡ stands
 
   -- the segment is read, and behind an event the server's shelf holds its fragment, or bars the name, which it was told to delete
@@ -93,19 +104,26 @@ module _ (e : Estate AnyNode) (server begun end : ℕ) where
     pub pairs : List (ℕ × ℕ)
     pub short : RoundStands w (Short pairs)
 
-  -- All that there is to fill in, by name, as the last of the other servers' lists comes: what they list of groups of which the server is a member, as it knows
-  -- them, and what its shelf neither holds nor bars.
-  pub record IsLacking (wanted : List Wanted) : Type 0 where
-    pub place : ℕ
-    pub before : place < end
-    pub node : Node
-    pub its : node_named (moment e place) (nodes.Server server) ≡ Some (any.Server node)
-    pub groups : GroupMapState
-    pub known : node.maps.groups ≡ Some groups
-    pub lists : List (ℕ × Listed)
-    pub come : AllByRecursion (λ (list : ℕ × Listed). HasCome list.0 (body.Listed list.1)) lists
-    pub all : (from : ℕ) → 1 ≤ from → from ≤ groups.servers → (from ≡ server → ⊥) → In from (map (λ (list : ℕ × Listed). list.0) lists)
-    pub lacks : wanted ≡ wanted_in server groups (values_of (remove_names (barred node.shelf) (listed_by lists)))
+-- All that there is to fill in, by name, at the event since its Begin by which the last of the other servers' lists comes to a server: what they list of groups of
+-- which the server is a member, as it knows them, and what its shelf neither holds nor bars.
+pub record IsLacking (e : Estate AnyNode) (server begun end : ℕ) (wanted : List Wanted) : Type 0 where
+  pub place : ℕ
+  pub since : begun < place
+  pub before : place < end
+  pub node : Node
+  pub its : node_named (moment e place) (nodes.Server server) ≡ Some (any.Server node)
+  -- it awaits lists still, and so has read nothing
+  pub rebuilding : Rebuilding
+  pub under_way : node.rebuilding ≡ Some rebuilding
+  pub awaits : rebuilding.rebuild.reads ≡ None
+  pub groups : GroupMapState
+  pub known : node.maps.groups ≡ Some groups
+  -- the lists in answer to its question that have come since the Begin, with the one that this event brings: of all other servers
+  pub lists : List (ℕ × Listed)
+  pub come : AllByRecursion (λ (list : ℕ × Listed). HasCome e server begun (suc place) list.0 (body.Listed list.1)) lists
+  pub asked : AllByRecursion (λ (list : ℕ × Listed). list.1.ask ≡ rebuilding.lists) lists
+  pub all : (from : ℕ) → 1 ≤ from → from ≤ groups.servers → (from ≡ server → ⊥) → In from (map (λ (list : ℕ × Listed). list.0) lists)
+  pub lacks : wanted ≡ wanted_in server groups (values_of (remove_names (barred node.shelf) (listed_by lists)))
 
 -- of these segments so many fragments were filled in, and so many are gone
 pub data AreCounted (e : Estate AnyNode) (server begun end : ℕ) : List Wanted → ℕ → ℕ → Type 0 where

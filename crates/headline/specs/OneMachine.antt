@@ -1,21 +1,28 @@
 -- The answers of a run of calls on blocks are those of one machine with one table, which makes the calls in the order in which they are answered; and where that
--- is the order of the lines, the text is the one machine's.
+-- is the order of the lines, the text is the one machine's. With calls on files among them the text is, where none is open as another begins.
 use Rattle.std.specs.List.{AllByRecursion, list_all}
-use Rattle.std.specs.Prelude.{◌≡◌, ◌≤◌, Bool, true, ◌||◌, not, List, [], ◌∷◌, Some, length}
+use Rattle.std.specs.Prelude.{◌≡◌, ◌≤◌, ℕ, Bool, true, ◌||◌, not, List, [], ◌∷◌, Some, None, length, slice_get}
+use Rattle.core_world.specs.declared.any_node.AnyNode.{AnyNode}
 use Rattle.file_plan.specs.Driving.{World, nothing_written}
 use Rattle.one_machine.specs.Machine.{IsAsOneMachine, call_on}
+use Rattle.one_machine.specs.Trees.{AreFit}
 use Rattle.script_text.specs.declared.script.Line.{Line}
 use Rattle.transcript.specs.Replies.{is_item}
 use Rattle.version_model.specs.declared.act.Act.{Act}
 use Rattle.version_model.specs.declared.act.Act.TheVariants as act
 use Rattle.version_model.specs.declared.work.Work.{Work}
+use Rattle.version_model.specs.declared.work.Work.TheVariants as work
 use Rattle.world_base.specs.declared.estate.Estate.{Estate}
+use Rattle.world_base.specs.declared.event.Event.TheVariants.{Begin}
+use Rattle.world_base.specs.declared.world.World.{World as Run}
 use Rattle.world_base.specs.Items.{items_of}
+use Rattle.xfs_base.specs.declared.node.NodeId.{NodeId}
 use Rattle.xfs_base.specs.Limits.{max_lines}
 use Rattle.headline.specs.Bounds.{IsQuiet, is_quiet}
 use Rattle.headline.specs.InLine.{AnswersInLine, answers_in}
 use Rattle.headline.specs.ItemActs.{IsOfCall}
-use Rattle.headline.specs.Items.{asked_at}
+use Rattle.headline.specs.Items.{asked_at, items_in}
+use Rattle.headline.specs.Moments.{moment, node_named}
 
 -- each line that is an item is a bput, a bget or a sync; the others are what the network, boards and servers that stop are asked
 abbrev pub is_on_blocks : Line → Bool
@@ -50,6 +57,32 @@ pub record CallsAsOneMachine {N : Type 0} (e : Estate N) : Type 0 where
   pub served : AreOnBlocks e.script.lines → AreDone e.world.acts → AnswersAreServed e
   -- and where each item is answered so, in the order of the lines, the text is the one machine's
   pub in_line : length e.script.lines ≤ max_lines → AreOnBlocks e.script.lines → AnswersInLine e → IsAsOneMachine e
+
+-- a client's call: a bput, a bget, a sync, or a call on files
+abbrev pub is_call : Work → Bool
+is_call (work.File client call) = true
+is_call wanted = is_quiet wanted
+
+-- each line that is an item is a call; the others are what the network, boards and servers that stop are asked
+abbrev pub is_call_or_none : Line → Bool
+is_call_or_none line = is_call line.work || not (is_item line)
+
+abbrev pub AreCalls : List Line → Type 0
+AreCalls lines = list_all is_call_or_none lines ≡ true
+
+-- no node has an open item
+abbrev pub NoneIsOpen : Run AnyNode → Type 0
+NoneIsOpen w = (name : NodeId) (x : AnyNode) → node_named w name ≡ Some x → (items_in x).unanswered ≡ None
+
+-- whenever an item begins, none is open
+abbrev pub BeginsAlone : Estate AnyNode → Type 0
+BeginsAlone e = (count : ℕ) (node : NodeId) → slice_get e.events count ≡ Some (Begin node) → NoneIsOpen (moment e count)
+
+-- Of a run whose items are calls of clients, files among them, whatever the network does, and whichever boards and servers stop:
+pub record FilesAsOneMachine (e : Estate AnyNode) : Type 0 where
+  -- where none is open as another begins, and each is answered, as a call is that is done, in the order of the lines, the text is the one machine's; the lines are
+  -- as scripts have them: what is written block by block is no file of the tree, and there are eight clients at most
+  pub in_line : length e.script.lines ≤ max_lines → AreFit e.script.lines → AreCalls e.script.lines → BeginsAlone e → AnswersInLine e → IsAsOneMachine e
 
 -- What a call of the program may ensure of the run that it played: where its script is quiet, the text is the one machine's.
 abbrev pub QuietAsOneMachine : {N : Type 0} → Estate N → Type 0

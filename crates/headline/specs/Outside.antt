@@ -4,6 +4,8 @@ use Rattle.core_world.specs.declared.any_node.AnyNode.{AnyNode}
 use Rattle.world_base.specs.declared.estate.Estate.{Estate}
 use Rattle.world_base.specs.Items.{works_of}
 use Rattle.headline.specs.Answers.{AnswersAreActs, VersionsAreNewest}
+use Rattle.headline.specs.Changes.{CallsFindVersions}
+use Rattle.headline.specs.Checkpoints.{CheckpointsAreTrue}
 use Rattle.headline.specs.Dues.{AnswersDue}
 use Rattle.headline.specs.Falls.{FallsApartThroughout}
 use Rattle.headline.specs.Files.{FileAnswersArePlanned}
@@ -12,7 +14,7 @@ use Rattle.headline.specs.Items.{ItemsAnsweredOnce}
 use Rattle.headline.specs.Linear.{IsLinearizable}
 use Rattle.headline.specs.Losses.{EachLostActIsEarned, LostAnswersEarned, WithoutLossesNothingIsLost}
 use Rattle.headline.specs.Numbers.{NumbersAreTrue}
-use Rattle.headline.specs.OneMachine.{CallsAsOneMachine}
+use Rattle.headline.specs.OneMachine.{CallsAsOneMachine, FilesAsOneMachine}
 use Rattle.headline.specs.Restarts.{LosesNone, NoDoubtfulRestart}
 use Rattle.headline.specs.Settled.{BlocksAreSettled}
 use Rattle.headline.specs.Standings.{AnswersFit}
@@ -49,11 +51,15 @@ pub record OutsideIsSafe (e : Estate AnyNode) : Type 0 where
   pub linearizable : IsLinearizable e
   -- and what a call writes over a version that it named, it writes over just that, so that no update of another is lost: up to there
   pub updates : NoUpdateIsLost e
-  -- so where all items are calls on blocks, and what is answered is answered as a call is that is done, the answers are those of one machine with one table of
-  -- blocks, which makes the calls in the order in which they are answered; and where that is the order of the lines, the text is the one machine's
+  -- each call on blocks finds its block as all acts so far left it: a write makes the version behind the newest; one over a version that it named is made only
+  -- where that is the newest, and is told that it has changed only where it isn't: up to there
+  pub changes : CallsFindVersions e
+  -- so where all items are calls on blocks, and each answer is that of a call that is done, the answers are those of one machine with one table of blocks, which
+  -- makes the calls in the order of their answers; and where that is the order of the lines, the text is the one machine's
   pub as_one_machine : CallsAsOneMachine e
-  -- each item is answered at most once, by its own node, after its Begin: so the text shows for an item its one answer, and as open are counted those that no
-  -- act answers
+  -- and so it is with calls on files among them, where each is answered so before another begins, in the order of the lines
+  pub with_files : FilesAsOneMachine e
+  -- each item is answered at most once, by its own node, after its Begin: so the text shows its one answer, or counts it as open
   pub answered_once : ItemsAnsweredOnce e
   -- what a client answers to a call on a block, a sync or a restart it has acted before, in the same event; the cleaner, back, that a segment of its new
   -- incarnation is filed; and an item is cut only where a crash, or the loss of a disk, is answered behind it
@@ -69,14 +75,15 @@ pub record OutsideIsSafe (e : Estate AnyNode) : Type 0 where
   -- or behind a restart by which it lost a segment of its log
   pub crashes_felt : CrashesAreFelt e
   pub in_turn : BeginsInTurn e → AnswersInTurn e
-  -- what a rebuild answers was filled in and is gone is so, of all that there was to fill in; and a cleaning answers how many segments were dropped
+  -- a rebuild answers how much was filled in, and is gone, of all that there was to fill in; a cleaning how many segments were dropped
   pub numbers_true : NumbersAreTrue e
+  -- and a checkpoint how many slots the registry was told of in time, of all that its manager managed as it came to them
+  pub checkpoints_true : CheckpointsAreTrue e
   -- a call on files answers what its plan says of the answers of its calls on blocks, each acted since it began
   pub files_planned : FileAnswersArePlanned e
   -- and a write its block's newest version, with its value: up to the first doubtful restart
   pub versions_newest : VersionsAreNewest e
-  -- each act Read is of its block's newest version, with its value, and no fall goes below a version that was synced or read elsewhere: up to the first
-  -- doubtful restart
+  -- each act Read is of its block's newest version, with its value, and no fall goes below a version that was synced or read elsewhere: up to there
   pub legal_acts : LegalActs e
   -- and throughout, where no line of the script has a server lose its disk
   pub legal_without_losses : LegalWithoutLosses e

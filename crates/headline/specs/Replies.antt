@@ -13,6 +13,7 @@ use Rattle.world_base.specs.declared.event.Event.{Event}
 use Rattle.world_base.specs.Events.{node_of, what_of}
 use Rattle.headline.specs.Dues.{has_counters}
 use Rattle.headline.specs.ManagerReplies.{ManagerReplies}
+use Rattle.headline.specs.ManagerTakes.{ManagerTakes}
 use Rattle.headline.specs.Moments.{moment, node_named}
 use Rattle.headline.specs.RegistryReplies.{RegistryReplies}
 use Rattle.headline.specs.ServerReplies.{ServerReplies}
@@ -22,7 +23,7 @@ use Rattle.headline.specs.Shelves.{ShelfChanges}
 abbrev pub IsReplied : AnyNode → Do → NodeStep AnyNode → Type 0
 IsReplied (any.Server v) (Deliver packet) s =
     is_well_formed v.peers packet ≡ true → names_known_groups v.maps packet.body ≡ true → ServerReplies v packet.from s packet.body
-IsReplied (any.Manager m) (Deliver packet) s = is_well_formed m.peers packet ≡ true → ManagerReplies m packet s.packets
+IsReplied (any.Manager m) (Deliver packet) s = is_well_formed m.peers packet ≡ true → ManagerReplies m packet s.packets × ManagerTakes m packet s
 IsReplied (any.Registry r) (Deliver packet) s = is_well_formed r.peers packet ≡ true → RegistryReplies r packet.from s packet.body
 IsReplied _ what s = Unit {0}
 

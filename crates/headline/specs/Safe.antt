@@ -1,7 +1,7 @@
 -- What is claimed of each run of the xFS nodes, in whatever order its items begin. What is said of versions (`legal_acts`, `holders_newest`, `versions_newest`,
--- `settled`, and in `linearizable` and `syncs_settle`), of indexes (`indexes`), of what clients that serve lose, and that what takeovers lose had been filed
--- (both in `losses_earned`), ends with the first restart that is doubtful; nothing else does. A script without a line by which a server loses its disk has no
--- such restart (`undoubted`).
+-- `updates`, `changes`, `settled`, and in `linearizable` and `syncs_settle`), of indexes (`indexes`), of what clients that serve lose, and that what takeovers
+-- lose had been filed (both in `losses_earned`), ends with the first restart that is doubtful; nothing else does. A script without a line by which a server loses
+-- its disk has no such restart (`undoubted`).
 use Rattle.core_world.specs.declared.any_node.AnyNode.{AnyNode}
 use Rattle.world_base.specs.declared.estate.Estate.{Estate}
 use Rattle.headline.specs.Inside.{InsideIsSafe}

@@ -1,7 +1,7 @@
 mod Acts
-mod Courses
+pub mod Courses
 mod Falls
-mod Histories
+pub mod Histories
 pub mod Moments
 mod Openings
 mod Reaching

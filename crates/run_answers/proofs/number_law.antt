@@ -4,12 +4,13 @@ mod Awaiting
 mod Asking
 mod Taking
 mod Events
-mod Acting
+pub mod Acting
 mod Rebuilds
 mod Cleanings
 mod Choosing
 mod Tallies
 mod Turning
+mod Jobs
 mod Emptying
 mod Sweeping
 mod Counts

@@ -1,7 +1,7 @@
-mod Filing
-mod Moving
-mod Holding
-mod Running
+pub mod Filing
+pub mod Moving
+pub mod Holding
+pub mod Running
 pub mod Clients
 pub mod Single
 mod Events

@@ -2,4 +2,5 @@ mod Servers
 mod Shelves
 mod Registries
 mod Managers
+mod Takes
 mod Runs

@@ -1,4 +1,8 @@
 mod Needs
+mod Steps
+mod Cutting
+mod Asked
 mod Waits
-mod Again
+pub mod Again
+mod Stores
 mod Runs

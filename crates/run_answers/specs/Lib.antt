@@ -8,3 +8,7 @@ pub mod own_law
 pub mod turn_law
 pub mod wait_law
 pub mod number_law
+pub mod change_law
+pub mod checkpoint_law
+pub mod repeat_law
+pub mod file_law

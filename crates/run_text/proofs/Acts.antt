@@ -1,16 +1,19 @@
 -- That a segment is filed, given up or lost changes no history and answers nothing: what is said of acts is said of those that calls do.
-use Rattle.std.proofs.Common.{◌≡◌, Bool, true, false, filter, List, [], ◌∷◌, ◌++◌, inl, inr, refl, sym, ap}
+use Rattle.std.proofs.Common.{◌≡◌, ℕ, Bool, true, false, filter, List, [], ◌∷◌, ◌++◌, inl, inr, refl, sym, ap, subst}
 use Rattle.std.specs.List.{AllByRecursion}
 use Rattle.headline.specs.Calls.{of_items}
 use Rattle.headline.specs.InLine.{answers_in}
-use Rattle.headline.specs.ItemActs.{IsOfBlocks}
+use Rattle.headline.specs.ItemActs.{IsOfBlocks, IsOfCall}
+use Rattle.headline.specs.OneMachine.{AreDone, IsDone}
 use Rattle.token_protocol.specs.Basics.{In}
 use Rattle.version_model.specs.declared.act.Act.{Act}
 use Rattle.version_model.specs.declared.act.Act.TheVariants as act
+use Rattle.version_model.specs.declared.answer.Answer.{Answer}
 use Rattle.version_model.specs.Effects.{after_act, history_after}
 use Rattle.version_model.specs.History.{History}
 use Rattle.version_model.specs.Legal.{AreLegalFrom}
 use Rattle.xfs_base.proofs.Booleans.{by_test}
+use Rattle.xfs_base.specs.declared.node.NodeId.{NodeId}
 
 -- no segment is filed, given up or lost by it
 abbrev pub is_of_calls : Act → Bool
@@ -100,6 +103,12 @@ answer_among [] a among = among
 answer_among (act.Answered node item answer ∷ acts) a (inl same) = inl same
 answer_among (act.Answered node item answer ∷ acts) a (inr among) = inr (answer_among acts a among)
 answer_among (_ ∷ acts) a among = inr (answer_among acts a among)
+
+-- where what is answered is answered as a call is that is done, each answer is
+pub each_done : (acts : List Act) → AreDone acts → (node : NodeId) (item : ℕ) (x : Answer) → In (act.Answered node item x) acts → IsOfCall x
+each_done [] all node item x among = absurd among
+each_done (a ∷ acts) all node item x (inl same) = subst IsDone (sym same) all.0
+each_done (a ∷ acts) all node item x (inr among) = each_done acts all.1 node item x among
 
 -- acts part where one of them stands
 pub record Parts (a : Act) (acts : List Act) : Type 0 where

@@ -10,7 +10,6 @@ use Rattle.client_node.specs.declared.client.Client.{Client}
 use Rattle.client_node.specs.declared.phase.Phase.{Phase}
 use Rattle.client_node.specs.declared.phase.Phase.TheVariants.{Down, Opening, Serving as Serves}
 use Rattle.client_node.specs.Phases.{client_step, lasting_of}
-use Rattle.core_world.specs.AnyNode.{any_step}
 use Rattle.core_world.specs.declared.any_node.AnyNode.{AnyNode}
 use Rattle.core_world.specs.declared.any_node.AnyNode.TheVariants as any
 use Rattle.file_plan.specs.declared.block_call.BlockAnswer.{BlockAnswer}
@@ -22,7 +21,6 @@ use Rattle.headline.specs.Bounds.{is_quiet}
 use Rattle.headline.specs.Calls.{Acts, EventStretch, IsClients, Opens, answered_so, is_of_items, of_items, open_in, told as told_of}
 use Rattle.headline.specs.Calls.Acts.{AtOnce, Begins, Falls, GoesOn, Loses, Passes, Rests, Returns, Stops}
 use Rattle.headline.specs.Calls.EventStretch.{Awaits, Concludes, Follows}
-use Rattle.headline.specs.Dues.{Fells}
 use Rattle.headline.specs.ItemActs.{ClientsActForItems, IsClientsEvent, IsFor, IsOfBlocks, IsOfCall, IsToldOf}
 use Rattle.headline.specs.ItemActs.IsFor.{OfBlock, OfFile}
 use Rattle.headline.specs.Items.{IsFileCall, IsOwnItem, ItemsAnsweredOnce, asked_at}
@@ -33,8 +31,7 @@ use Rattle.headline.specs.Standings.{client_stands, standing}
 use Rattle.headline.specs.Standings.Standing.{Opens as IsOpening, Serves as Stands}
 use Rattle.log_tie.proofs.Listings.{in_back, in_either, in_front}
 use Rattle.quiet_script.proofs.QuietWorks.{each_quiet}
-use Rattle.run_answers.proofs.once_law.Runs.{Known, node_known}
-use Rattle.run_answers.proofs.standing_law.Moments.{each_stands}
+use Rattle.run_answers.proofs.once_law.Runs.{node_known}
 use Rattle.run_answers.specs.due_law.Turns.{EachEventKeepsStanding, EachStartServes}
 use Rattle.script_text.specs.declared.script.Line.{Line}
 use Rattle.token_client.specs.declared.held.Held.{Held}
@@ -57,6 +54,7 @@ use Rattle.xfs_base.specs.declared.block.BlockId.{BlockId}
 use Rattle.xfs_base.specs.declared.node.NodeId.{NodeId}
 use Rattle.xfs_base.specs.declared.node.NodeId.TheVariants as nodes
 use Rattle.run_text.proofs.Acts.{Parts, all_items, among_all, block_first, calls_items, is_of_calls, item_among, of_calls, parts_at}
+use Rattle.run_text.proofs.Standing.{each_serves}
 
 -- ---- what items ask for
 
@@ -86,7 +84,7 @@ all_quiet (l ∷ lines) node on =
     by_test (λ xs. AllByRecursion (IsQuietOf node) xs) (is_for node l.work) (l.work ∷ items_of lines node) (items_of lines node)
     (λ its. (line_quiet node l both.0 its, all_quiet lines node both.1)) (λ _. all_quiet lines node both.1)
 
-all_asked : (P : Work → Type 0) (works : List Work) (item : ℕ) → AllByRecursion P works → IfSome (asked_at works item) P
+pub all_asked : (P : Work → Type 0) (works : List Work) (item : ℕ) → AllByRecursion P works → IfSome (asked_at works item) P
 all_asked P works item all =
     elim (nat_lt 0 item) as (λ t. IfSome (cond t (slice_get works (item - 1)) None) P) [
       | true ↦ all_read P works (item - 1) all
@@ -394,16 +392,4 @@ module _ (e : Estate AnyNode) (on_blocks : AreOnBlocks e.script.lines) where
 
   module _ (starts : EachStartServes) (events : EachEventKeepsStanding) where
     pub all_serve : (count : ℕ) (name : NodeId) (x : AnyNode) → node_named (moment e count) name ≡ Some x → standing x ≡ Stands
-    all_serve =
-        each_stands (λ name x. standing x ≡ Stands) e (λ name. starts name e.script.setup (works name))
-        (λ count event happens x was serves. turn count event x was ((events x (what_of event)).serving serves))
-      where
-        turn : (count : ℕ) (event : Event) (x : AnyNode) → node_named (moment e count) (node_of event) ≡ Some x
-            → (standing (any_step x (what_of event)).node ≡ Stands) ⊎ Fells x (what_of event) (any_step x (what_of event))
-            → standing (any_step x (what_of event)).node ≡ Stands
-        turn count event x was (inl so) = so
-        turn count event x was (inr f) =
-            let known : Known e (node_of event) x = node_known e count (node_of event) x was in
-            let asked : asked_at (works (node_of event)) f.number ≡ Some (work.Crash f.named) =
-            ap (λ (ws : List Work). asked_at ws f.number) (sym known.works) ∙ f.begins.asked in
-            absurd (true≢false (sym (asked_quiet (node_of event) f.number (work.Crash f.named) asked).quiet))
+    all_serve = each_serves e starts events (λ node item named asked. true≢false (sym (asked_quiet node item (work.Crash named) asked).quiet))

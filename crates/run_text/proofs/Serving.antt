@@ -10,7 +10,7 @@ use Rattle.headline.specs.InLine.{answers_in}
 use Rattle.headline.specs.ItemActs.{ClientsActForItems, IsOfBlocks, IsOfCall}
 use Rattle.headline.specs.Items.{ItemsAnsweredOnce, asked_at}
 use Rattle.headline.specs.Moments.{acts_in, moment, node_named}
-use Rattle.headline.specs.OneMachine.{AreDone, AreOnBlocks, IsDone, Serves}
+use Rattle.headline.specs.OneMachine.{AreDone, AreOnBlocks, Serves}
 use Rattle.headline.specs.Restarts.{NoDoubtfulRestart}
 use Rattle.headline.specs.Standings.{standing}
 use Rattle.headline.specs.Standings.Standing.{Serves as Stood}
@@ -39,7 +39,7 @@ use Rattle.world_base.specs.Runs.{IsRun}
 use Rattle.xfs_base.proofs.Alls.{all_append}
 use Rattle.xfs_base.specs.declared.node.NodeId.{NodeId}
 use Rattle.xfs_base.specs.declared.node.NodeId.TheVariants as nodes
-use Rattle.run_text.proofs.Acts.{Parts, answers_items, history_items, item_among, of_calls, legal_behind, legal_items, parts_at}
+use Rattle.run_text.proofs.Acts.{answers_items, each_done, history_items, item_among, legal_behind, legal_items, of_calls, Parts, parts_at}
 use Rattle.run_text.proofs.Events.{Tells, tells_or_none}
 use Rattle.run_text.proofs.Moments.{acts_then, first_acts, last_moment, stays}
 use Rattle.run_text.proofs.Tables.{IsServed, Shows, WritesNewest, shows_nothing, told_is_served}
@@ -64,7 +64,7 @@ abbrev pub IsNoReturn : Act → Type 0
 IsNoReturn (act.Back client chain) = ⊥
 IsNoReturn _ = Unit {0}
 
-no_returns : (acts : List Act) → AllByRecursion IsNoReturn (of_calls acts) → AllByRecursion IsNoReturn acts
+pub no_returns : (acts : List Act) → AllByRecursion IsNoReturn (of_calls acts) → AllByRecursion IsNoReturn acts
 no_returns [] none = tt
 no_returns (act.Filed seg ∷ acts) none = (tt, no_returns acts none)
 no_returns (act.Dropped seg ∷ acts) none = (tt, no_returns acts none)
@@ -101,11 +101,6 @@ module _ (e : Estate AnyNode) (run : IsRun any_step any_start e.script e.events 
   abbrev history : ℕ → History
   history count = history_after (moment e count).acts nothing_yet
 
-  of_all : (acts : List Act) → AreDone acts → (node : NodeId) (item : ℕ) (x : Answer) → In (act.Answered node item x) acts → IsOfCall x
-  of_all [] all node item x among = absurd among
-  of_all (a ∷ acts) all node item x (inl same) = subst IsDone (sym same) all.0
-  of_all (a ∷ acts) all node item x (inr among) = of_all acts all.1 node item x among
-
   module _ (count : ℕ) (event : Event) (happens : slice_get e.events count ≡ Some event) (so_far : Stands lines (moment e count).acts) where
     abbrev before : List Act
     before = (moment e count).acts
@@ -118,7 +113,7 @@ module _ (e : Estate AnyNode) (run : IsRun any_step any_start e.script e.events 
 
     its_done : (node : NodeId) (item : ℕ) (x : Answer) → In (act.Answered node item x) xs → IsOfCall x
     its_done node item x among =
-        of_all e.world.acts done node item x
+        each_done e.world.acts done node item x
         (stays e run (suc count) (act.Answered node item x) (subst (In (act.Answered node item x)) (sym then_) (in_back (act.Answered node item x) before xs among)))
 
     answers_are : answers_in (before ++ xs) ≡ answers_in before ++ answers_in (of_calls xs)

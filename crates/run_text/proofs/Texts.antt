@@ -87,7 +87,7 @@ module _ (script_lines : List Line) (few : length script_lines ≤ max_lines) (a
         let both = length-append before (line ∷ lines) in
         omega arith
 
-    number_is : number_of before node ≡ suc (length (items_of before node))
+    pub number_is : number_of before node ≡ suc (length (items_of before node))
     number_is =
         let count = items_counted before node in
         let most = count_by-le-length (is_for node) (works_of before) in
@@ -96,7 +96,7 @@ module _ (script_lines : List Line) (few : length script_lines ≤ max_lines) (a
         omega arith
 
     -- the item asks for what its line says
-    asked_here : asked_at (items_of script_lines node) (number_of before node) ≡ Some line.work
+    pub asked_here : asked_at (items_of script_lines node) (number_of before node) ≡ Some line.work
     asked_here =
         ap (asked_at (items_of script_lines node)) number_is
         ∙ ap (λ t. cond t (slice_get (items_of script_lines node) (suc (length (items_of before node)) - 1)) None) (lt-ltb 0 (suc (length (items_of before node))) (omega arith))

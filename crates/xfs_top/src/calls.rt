@@ -26,11 +26,15 @@ use quiet_script::accepted_scripts_are_orderly;
 use run_answers::act_law::{
     answered_versions_are_newest, answers_are_acts, file_answers_are_planned,
 };
+use run_answers::change_law::calls_find_versions;
+use run_answers::checkpoint_law::checkpoints_are_true;
 use run_answers::due_law::runs_answer_what_is_due;
+use run_answers::file_law::clients_file_one_after_another;
 use run_answers::linear_law::runs_are_linearizable;
 use run_answers::number_law::{cleanings_are_true, rebuilds_are_true};
 use run_answers::once_law::items_are_answered_once;
 use run_answers::own_law::clients_act_for_their_items;
+use run_answers::repeat_law::what_is_unanswered_is_said_again;
 use run_answers::reply_law::questions_are_answered;
 use run_answers::standing_law::answers_fit_where_a_node_stands;
 use run_answers::turn_law::{each_crash_is_felt, runs_in_turn_are_never_busy};
@@ -52,7 +56,10 @@ use run_laws::world_reads::every_runs_acts_are_legal;
 use run_losses::answer_law::lost_answers_are_said;
 use run_losses::earned_law::each_lost_act_is_earned;
 use run_losses::unlost_law::nothing_is_lost_without_losses;
-use run_text::runs_are_as_one_machine;
+use run_text::{
+    items_of_one_client_begin_alone, items_that_begin_alone_are_answered_in_line,
+    runs_are_as_one_machine, runs_with_files_are_as_one_machine,
+};
 use std::alloc::Global;
 use std::mem;
 use std::sync::Wait;
@@ -80,14 +87,18 @@ fn every_run_is_safe()
     items_are_answered_once();
     answers_are_acts();
     clients_act_for_their_items();
+    clients_file_one_after_another();
     answers_fit_where_a_node_stands();
     runs_answer_what_is_due();
     rebuilds_are_true();
     cleanings_are_true();
+    checkpoints_are_true();
     file_answers_are_planned();
     answered_versions_are_newest();
     runs_are_linearizable();
+    calls_find_versions();
     runs_are_as_one_machine();
+    runs_with_files_are_as_one_machine();
     without_losses_no_restart_is_doubtful();
     nothing_is_lost_without_losses();
     each_crash_is_felt();
@@ -95,6 +106,7 @@ fn every_run_is_safe()
     questions_are_answered();
     open_calls_have_asked();
     wants_are_sent_again();
+    what_is_unanswered_is_said_again();
 }
 
 /// The acts of the run, where there is one, are in the ranges of their types. It does nothing when it runs, but for a loop over them.
@@ -124,7 +136,10 @@ fn prove_in_range(outcome: &Outcome<AnyNode>)
 /// - `bounds`: where the script has only the lines `bput`, `bget` and `sync`, each item was answered, once, within 128
 ///   deliveries and one tick of each node, in the order of the lines (`specs/Bounds.antt`). Of `boards` nothing is said.
 /// - `one_machine`: of such a script the text is what one machine with one table of blocks answers that makes the call of each line
-///   before it looks at the next (`specs/Machine.antt` of `one_machine`).
+///   before it looks at the next (`specs/Machine.antt` of `one_machine`). And so it is, by `boards` too, where each item is a call
+///   of a client, on blocks or on files, whatever the network does and whichever boards and servers stop: if none was open as
+///   another began, nor at the end, and no answer is `busy`, `down`, `up`, `cut` or `lost`; where all items are of one client, the
+///   text tells all of that (`specs/OneMachine.antt`).
 /// - `disks`: by `disks` the run is the one that its script determines with servers that stop, and so is all that the disk of
 ///   each server did, and its bytes: `open` of it, without fault, gives what the script says is kept on it, with the shelf of
 ///   that server in the world in which the run ends. By other words there are none.
@@ -150,6 +165,8 @@ pub fn solo<S: Source, K: Sink>(
     all_quiet_scripts_are_answered();
     unstopped_scripts_are_played::<AnyNode>();
     runs_are_audited_legal();
+    items_that_begin_alone_are_answered_in_line();
+    items_of_one_client_begin_alone();
     let outcome = answer(alloc, words, source, sink);
     prove_in_range(&outcome);
     outcome
@@ -160,8 +177,8 @@ pub fn solo<S: Source, K: Sink>(
 /// nodes, and it promises what `solo` does; that it returns is not claimed. All other words `solo` answers.
 ///
 /// - `bounds`: of the answers of a quiet script, as `solo` says it; of `live W` and `mount W` nothing is said.
-/// - `one_machine`: that the text of such a script is the one machine's, as `solo` says it; of `live W` and `mount W` nothing is said
-///   but what `headline` says of each run.
+/// - `one_machine`: that the text is the one machine's, as `solo` says it; of `live W` and `mount W` nothing is said but what
+///   `headline` says of each run.
 /// - `mounts`: by `mount W` for each client what its application called are its items, in their order, each once, and what
 ///   that was replied is what the client answered to them in the run, in that order, each once. By other words there are
 ///   neither.
@@ -190,6 +207,8 @@ pub fn xfs<R: Threads + Wait + Sync, S: Source, K: Sink, G: Gate>(
     all_quiet_scripts_are_answered();
     unstopped_scripts_are_played::<AnyNode>();
     runs_are_audited_legal();
+    items_that_begin_alone_are_answered_in_line();
+    items_of_one_client_begin_alone();
     match threads_asked(words) {
         Some(command) => {
             let outcome = answer_threads(rt, alloc, command, source, sink, gate);

@@ -44,7 +44,7 @@ same_work a b fact = cc
 -- ---- the node's turn
 
 -- by the event at this clock the world is that behind the node's step
-record Turned (w : World AnyNode) (event : Event) (x : AnyNode) : Type 0 where
+pub record Turned (w : World AnyNode) (event : Event) (x : AnyNode) : Type 0 where
   place : ℕ
   placed : place_of w.cluster (node_of event) ≡ Some place
   there : slice_get w.nodes place ≡ Some x
@@ -52,11 +52,11 @@ record Turned (w : World AnyNode) (event : Event) (x : AnyNode) : Type 0 where
   is : next_world any_step w event ≡ after_turn any_step w place clock (turn_by any_step w.nodes place (what_of event) (Some x))
 
 -- or nothing happens
-record Idle (w : World AnyNode) (event : Event) : Type 0 where
+pub record Idle (w : World AnyNode) (event : Event) : Type 0 where
   ends : PassesClocks w event
   stays : next_world any_step w event ≡ w
 
-turns_or_ends : (w : World AnyNode) (event : Event) (x : AnyNode) → node_named w (node_of event) ≡ Some x → Idle w event ⊎ Turned w event x
+pub turns_or_ends : (w : World AnyNode) (event : Event) (x : AnyNode) → node_named w (node_of event) ≡ Some x → Idle w event ⊎ Turned w event x
 unfolding world_happen happen_at turn_of
 turns_or_ends w event x = by (place_of w.cluster (node_of event)) refl
   where
@@ -148,7 +148,7 @@ module _ (e : Estate AnyNode) where
             ∙ (ap (λ (v : World AnyNode). node_named v name) (sym (moment_next e count event happens)) ∙ fact)))
             differs
 
-    turn : Idle w event ⊎ Turned w event x → NothingComes e count event ⊎ TakesTurn e count event x
+    pub turn : Idle w event ⊎ Turned w event x → NothingComes e count event ⊎ TakesTurn e count event x
     turn (inl idle) = inl (record { ends = idle.ends; stays = moment_next e count event happens ∙ idle.stays })
     turn (inr t) = inr (turn_so t)
 

@@ -207,5 +207,5 @@ module _ (e : Estate AnyNode) (v count : ℕ) where
         since = omega arith;
         server = h.server;
         known = h.known;
-        reading = record { behind = h.behind; present = record { is = refl; come = tt } };
+        reading = record { behind = h.behind; present = record { is = refl; come = tt; fit = tt } };
       })

@@ -13,7 +13,7 @@ first_or_later : (from x : ℕ) (heard : List ℕ) → (list_any (λ w. w == fro
 first_or_later from x heard later true same fact = inl (sym (eqb-true x from same))
 first_or_later from x heard later false same fact = inr (later fact)
 
-in_heard : (from : ℕ) (heard : List ℕ) → list_any (λ w. w == from) heard ≡ true → In from heard
+pub in_heard : (from : ℕ) (heard : List ℕ) → list_any (λ w. w == from) heard ≡ true → In from heard
 in_heard from [] fact = contrary fact
 in_heard from (x ∷ heard) fact = first_or_later from x heard (λ rest. in_heard from heard rest) (x == from) refl fact
 

@@ -1,5 +1,5 @@
 -- In every run a count that the cleaner answers is the number of segments that it has dropped since the item began.
-use Rattle.std.proofs.Common.{◌≡◌, ◌⊎◌, ◌<◌, ◌+◌, ◌++◌, min, if◌then◌else◌, ℕ, zero, suc, Bool, List, [], ◌∷◌, Option, Some, None, slice_get, inl, inr, refl, sym, ap, subst, ◌∙◌, arith}
+use Rattle.std.proofs.Common.{◌≡◌, ◌⊎◌, ◌<◌, ◌+◌, ◌++◌, min, if◌then◌else◌, ℕ, suc, Bool, List, [], ◌∷◌, Option, Some, None, slice_get, inl, inr, refl, sym, ap, subst, ◌∙◌, arith}
 use Rattle.std.specs.List.{AllByRecursion}
 use Rattle.cleaner_job.specs.declared.job.Job.{Job}
 use Rattle.cleaner_node.specs.CleanerEvents.{lasting_of, takes}
@@ -23,7 +23,6 @@ use Rattle.wire_msg.specs.declared.packet.Do.{Do}
 use Rattle.wire_msg.specs.declared.packet.Do.TheVariants as whats
 use Rattle.world_base.specs.declared.estate.Estate.{Estate}
 use Rattle.world_base.specs.declared.event.Event.{Event}
-use Rattle.world_base.specs.declared.event.Event.TheVariants.{Begin}
 use Rattle.world_base.specs.Events.{node_of, what_of}
 use Rattle.world_base.specs.Items.{items_of}
 use Rattle.world_base.specs.Runs.{IsRun}

@@ -1,5 +1,6 @@
 -- What each event makes of the rebuild of a server, whatever comes to it.
 use Rattle.std.proofs.Common.{◌≡◌, ◌<◌, ◌==◌, ◌&&◌, cond, ℕ, suc, true, [], ◌∷◌, Option, Some, None, is_some, slice_get, refl, sym, ap, subst, arith}
+use Rattle.std.proofs.lemmas.Bool.{eqb-true}
 use Rattle.std.specs.List.{AllByRecursion}
 use Rattle.std.specs.Ordering.{is_eq}
 use Rattle.core_world.specs.declared.any_node.AnyNode.{AnyNode}
@@ -156,7 +157,7 @@ module _ (e : Estate AnyNode) (v count : ℕ) where
             since = omega arith;
             server = number;
             known = fact;
-            reading = record { lists = []; come = tt; heard_of = refl; listed_of = refl };
+            reading = record { lists = []; come = tt; asked = tt; heard_of = refl; listed_of = refl };
           })
 
       wished : (item : ℕ) → next_item node.items ≡ Some item → (w : Wish) → Leads e v count (on_wish begun item w)
@@ -198,12 +199,13 @@ module _ (e : Estate AnyNode) (v count : ℕ) where
       lists_lead None m sender says at = stays node later
       lists_lead (Some server) m sender says at =
           by_test (Leads e v count) (awaits_list node.rebuilding m.ask) (rebuilds node (input.Listed server m.held (barred node.shelf))) (still node)
-          (λ _. by node.rebuilding so) (λ _. stays node later)
+          (λ fact. by node.rebuilding refl fact so) (λ _. stays node later)
         where
-          by : (r : Option Rebuilding) → SoFar e v count node.items.unanswered node.maps.groups r
+          by : (r : Option Rebuilding) → node.rebuilding ≡ r → awaits_list r m.ask ≡ true → SoFar e v count node.items.unanswered node.maps.groups r
               → Leads e v count (goes_on node r (input.Listed server m.held (barred node.shelf)))
-          by None h = stays node later
-          by (Some r) h = listed e v count node r h its server m (come h.begun h.since server sender (body.Listed m) says)
+          by None same fact h = stays node later
+          by (Some r) same fact h =
+              listed e v count node r h its server m (come h.begun h.since server sender (body.Listed m) says) same (sym (eqb-true r.lists m.ask fact))
 
       found_lead : (from : Option ℕ) (m : Found) → server_in packet.from ≡ from → packet.body ≡ body.Fragment m → Goes (on_found node from m)
       unfolding on_found rebuilds

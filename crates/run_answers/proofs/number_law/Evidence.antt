@@ -1,5 +1,5 @@
 -- What came to a server since its rebuild began, and what was filled in and is gone by that, is so still behind a further event.
-use Rattle.std.proofs.Common.{ℕ, suc, List, arith}
+use Rattle.std.proofs.Common.{◌≡◌, ℕ, suc, List, arith}
 use Rattle.std.specs.List.{AllByRecursion}
 use Rattle.core_world.specs.declared.any_node.AnyNode.{AnyNode}
 use Rattle.group_rebuild.specs.declared.wanted.Wanted.{Wanted}
@@ -14,6 +14,10 @@ use Rattle.world_base.specs.declared.estate.Estate.{Estate}
 use Rattle.xfs_base.proofs.Alls.{all_weaker}
 use Rattle.headline.specs.Numbers.{AreCounted, HasCome, HasTold, IsFilled, IsGone, IsLacking, RoundStands}
 use Rattle.headline.specs.Numbers.AreCounted.{NoneYet, OneFilled, OneGone}
+
+-- a list answers this question
+abbrev pub IsAskedAs : ℕ → ℕ × Listed → Type 0
+IsAskedAs ask list = list.1.ask ≡ ask
 
 module _ (e : Estate AnyNode) (v begun end : ℕ) where
   -- such a list came from such a server
@@ -54,7 +58,7 @@ module _ (e : Estate AnyNode) (v begun end : ℕ) where
       all_weaker (Replied e v begun end) (Replied e v begun (suc end)) (λ r h. told_later r.server r.told h) replies all
 
   round_later : (w : Wanted) (s : RoundState) → RoundStands e v begun end w s → RoundStands e v begun (suc end) w s
-  round_later w s h = record { replies = h.replies; come = replies_later h.replies h.come; is = h.is }
+  round_later w s h = record { replies = h.replies; come = replies_later h.replies h.come; fit = h.fit; is = h.is }
 
   filled_later : (w : Wanted) → IsFilled e v begun end w → IsFilled e v begun (suc end) w
   filled_later w h =
@@ -83,13 +87,18 @@ module _ (e : Estate AnyNode) (v begun end : ℕ) where
       let low = h.before in
       record {
         place = h.place;
+        since = h.since;
         before = omega arith;
         node = h.node;
         its = h.its;
+        rebuilding = h.rebuilding;
+        under_way = h.under_way;
+        awaits = h.awaits;
         groups = h.groups;
         known = h.known;
         lists = h.lists;
-        come = lists_later h.lists h.come;
+        come = h.come;
+        asked = h.asked;
         all = h.all;
         lacks = h.lacks;
       }

@@ -21,9 +21,9 @@ use Rattle.xfs_base.specs.declared.fragment.FragMeta.{FragMeta}
 use Rattle.xfs_base.specs.declared.node.NodeId.TheVariants as nodes
 use Rattle.xfs_base.specs.declared.segment.SegName.{SegName}
 use Rattle.xfs_base.specs.Limits.{u32_end}
-use Rattle.headline.specs.Numbers.{AreCounted, BeganAt, HasTold, IsFilled, IsGone, IsLacking, listed_by}
+use Rattle.headline.specs.Numbers.{AreCounted, BeganAt, HasTold, IsFilled, IsGone, IsLacking, IsReplyOf, listed_by}
 use Rattle.headline.specs.Numbers.AreCounted.{OneFilled, OneGone}
-use Rattle.run_answers.proofs.number_law.Evidence.{ListCame, Replied, counted_later, lacking_later, lists_later, replies_later}
+use Rattle.run_answers.proofs.number_law.Evidence.{IsAskedAs, ListCame, Replied, counted_later, lacking_later, lists_later, replies_later}
 
 -- a round over the other members of a segment's group, with these replies
 abbrev pub round_of : Wanted → List Reply → RoundSoFar
@@ -34,10 +34,11 @@ here None = []
 here (Some p) = p.wanted ∷ []
 
 module _ (e : Estate AnyNode) (v begun end : ℕ) where
-  -- these servers are heard, and this is listed
-  pub record ListsSo (heard : List ℕ) (listed : List (SegName × FragMeta)) : Type 0 where
+  -- under this question these servers are heard, and this is listed
+  pub record ListsSo (ask : ℕ) (heard : List ℕ) (listed : List (SegName × FragMeta)) : Type 0 where
     pub lists : List (ℕ × Listed)
     pub come : AllByRecursion (ListCame e v begun end) lists
+    pub asked : AllByRecursion (IsAskedAs ask) lists
     pub heard_of : heard ≡ map (λ (list : ℕ × Listed). list.0) lists
     pub listed_of : listed ≡ listed_by lists
 
@@ -45,6 +46,7 @@ module _ (e : Estate AnyNode) (v begun end : ℕ) where
   pub record PresentSo (p : Present) : Type 0 where
     pub is : p.round ≡ round_of p.wanted p.round.answers
     pub come : AllByRecursion (Replied e v begun end) p.round.answers
+    pub fit : AllByRecursion (IsReplyOf p.wanted) p.round.answers
 
   -- so many are filled in and gone, before these that are left of all
   pub record Behind (left : List Wanted) (filled gone : ℕ) : Type 0 where
@@ -62,9 +64,9 @@ module _ (e : Estate AnyNode) (v begun end : ℕ) where
     pub behind : Behind (here r.present ++ r.left) r.filled r.gone
     pub present : IfSome r.present PresentSo
 
-  abbrev pub ReadingSo : List ℕ → List (SegName × FragMeta) → Option ReadsState → Type 0
-  ReadingSo heard listed None = ListsSo heard listed
-  ReadingSo heard listed (Some r) = ReadsSo r
+  abbrev pub ReadingSo : ℕ → List ℕ → List (SegName × FragMeta) → Option ReadsState → Type 0
+  ReadingSo ask heard listed None = ListsSo ask heard listed
+  ReadingSo ask heard listed (Some r) = ReadsSo r
 
   -- ---- one more is filled in, or gone
 
@@ -103,15 +105,16 @@ module _ (e : Estate AnyNode) (v begun end : ℕ) where
   }
 
   -- a server replied, and so the round stands with that
-  pub round_taken : (p : Present) (server : ℕ) (t : Told) → PresentSo p → HasTold e v begun end server t
-      → PresentSo (record { wanted = p.wanted; round = round_take p.round server t })
+  pub round_taken : (p : Present) (server : ℕ) (t : Told) → PresentSo p → IsReplyOf p.wanted (record { server = server; told = t })
+      → HasTold e v begun end server t → PresentSo (record { wanted = p.wanted; round = round_take p.round server t })
   unfolding round_take
-  round_taken p server t h new =
+  round_taken p server t h fits new =
       by_test (λ (r : RoundSoFar). PresentSo (record { wanted = p.wanted; round = r })) (has_answered p.round.answers server) p.round
       (record p.round { answers = p.round.answers ++ record { server = server; told = t } ∷ [] }) (λ _. h)
       (λ _. record {
         is = ap (λ (r : RoundSoFar). record r { answers = p.round.answers ++ record { server = server; told = t } ∷ [] }) h.is;
         come = all_append (Replied e v begun end) p.round.answers (record { server = server; told = t } ∷ []) h.come (new, tt);
+        fit = all_append (IsReplyOf p.wanted) p.round.answers (record { server = server; told = t } ∷ []) h.fit (fits, tt);
       })
 
 -- ---- one event later
@@ -132,20 +135,25 @@ module _ (e : Estate AnyNode) (v begun end : ℕ) where
 
   present_later : (p : Option Present) → IfSome p (PresentSo e v begun end) → IfSome p (PresentSo e v begun (suc end))
   present_later None h = tt
-  present_later (Some p) h = record { is = h.is; come = replies_later e v begun end p.round.answers h.come }
+  present_later (Some p) h = record { is = h.is; come = replies_later e v begun end p.round.answers h.come; fit = h.fit }
 
-  pub reading_later : (heard : List ℕ) (listed : List (SegName × FragMeta)) (r : Option ReadsState) → ReadingSo e v begun end heard listed r
-      → ReadingSo e v begun (suc end) heard listed r
-  reading_later heard listed None h =
-      record { lists = h.lists; come = lists_later e v begun end h.lists h.come; heard_of = h.heard_of; listed_of = h.listed_of }
-  reading_later heard listed (Some r) h =
+  pub reading_later : (ask : ℕ) (heard : List ℕ) (listed : List (SegName × FragMeta)) (r : Option ReadsState) → ReadingSo e v begun end ask heard listed r
+      → ReadingSo e v begun (suc end) ask heard listed r
+  reading_later ask heard listed None h = record {
+    lists = h.lists;
+    come = lists_later e v begun end h.lists h.come;
+    asked = h.asked;
+    heard_of = h.heard_of;
+    listed_of = h.listed_of;
+  }
+  reading_later ask heard listed (Some r) h =
       record { behind = behind_later (here r.present ++ r.left) r.filled r.gone h.behind; present = present_later r.present h.present }
 
 -- ---- a server
 
 module _ (e : Estate AnyNode) (v end : ℕ) where
-  -- a rebuild is under way for this open item, over these groups
-  pub record RunsSo (open_item : Option ℕ) (groups : Option GroupMapState) (r : RebuildState) : Type 0 where
+  -- a rebuild is under way for this open item, over these groups, and asks for lists under this question
+  pub record RunsSo (open_item : Option ℕ) (groups : Option GroupMapState) (ask : ℕ) (r : RebuildState) : Type 0 where
     pub item : ℕ
     pub waits : open_item ≡ Some item
     pub begun : ℕ
@@ -153,19 +161,19 @@ module _ (e : Estate AnyNode) (v end : ℕ) where
     pub since : begun < end
     pub server : r.server ≡ v
     pub known : groups ≡ Some r.groups
-    pub reading : ReadingSo e v begun end r.heard r.listed r.reads
+    pub reading : ReadingSo e v begun end ask r.heard r.listed r.reads
 
   abbrev pub SoFar : Option ℕ → Option GroupMapState → Option Rebuilding → Type 0
   SoFar open_item groups None = Unit {0}
-  SoFar open_item groups (Some r) = RunsSo open_item groups r.rebuild
+  SoFar open_item groups (Some r) = RunsSo open_item groups r.lists r.rebuild
 
   abbrev pub NodeSo : Node → Type 0
   NodeSo node = SoFar node.items.unanswered node.maps.groups node.rebuilding
 
 module _ (e : Estate AnyNode) (v end : ℕ) where
-  runs_later : (open_item : Option ℕ) (groups : Option GroupMapState) (r : RebuildState) → RunsSo e v end open_item groups r
-      → RunsSo e v (suc end) open_item groups r
-  runs_later open_item groups r h =
+  runs_later : (open_item : Option ℕ) (groups : Option GroupMapState) (ask : ℕ) (r : RebuildState) → RunsSo e v end open_item groups ask r
+      → RunsSo e v (suc end) open_item groups ask r
+  runs_later open_item groups ask r h =
       let low = h.since in
       record {
         item = h.item;
@@ -175,10 +183,10 @@ module _ (e : Estate AnyNode) (v end : ℕ) where
         since = omega arith;
         server = h.server;
         known = h.known;
-        reading = reading_later e v h.begun end r.heard r.listed r.reads h.reading;
+        reading = reading_later e v h.begun end ask r.heard r.listed r.reads h.reading;
       }
 
   pub so_later : (open_item : Option ℕ) (groups : Option GroupMapState) (r : Option Rebuilding) → SoFar e v end open_item groups r
       → SoFar e v (suc end) open_item groups r
   so_later open_item groups None h = tt
-  so_later open_item groups (Some r) h = runs_later open_item groups r.rebuild h
+  so_later open_item groups (Some r) h = runs_later open_item groups r.lists r.rebuild h

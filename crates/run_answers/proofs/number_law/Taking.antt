@@ -11,7 +11,7 @@ use Rattle.fragment_store.specs.ShelfState.{ShelfState, is_held, is_marked}
 use Rattle.group_rebuild.specs.declared.output.Out.{Out}
 use Rattle.group_rebuild.specs.declared.reads.Present.{Present}
 use Rattle.group_rebuild.specs.declared.wanted.Wanted.{Wanted}
-use Rattle.group_rebuild.specs.Reads.{ReadsState, answered, counts, go_on, one_more, reads_judge, reads_of, reads_take}
+use Rattle.group_rebuild.specs.Reads.{ReadsState, answered, counts, go_on, is_of, one_more, reads_judge, reads_of, reads_take}
 use Rattle.group_rebuild.specs.RebuildState.{RebuildState}
 use Rattle.group_rebuild.specs.Transition.{awaited, awaits, begun_if_all, heard_from, listed_with, on_listed, rebuild_begin, remove_names, told_by, with_reads}
 use Rattle.group_rebuild.specs.Wanted.{refilled, wanted_in}
@@ -21,27 +21,30 @@ use Rattle.store_nodes.specs.Rebuilds.{Done, says}
 use Rattle.stripe_code.specs.declared.round.RoundState.{RoundState}
 use Rattle.stripe_code.specs.declared.round.RoundState.TheVariants.{Read, Short, Waiting}
 use Rattle.stripe_code.specs.declared.round.Told.{Told}
-use Rattle.stripe_code.specs.Round.{RoundSoFar, round_take, state_of}
+use Rattle.stripe_code.specs.declared.round.Told.TheVariants.{Held, Missing}
+use Rattle.stripe_code.specs.Round.{RoundSoFar, asks, round_take, state_of}
 use Rattle.token_protocol.specs.Basics.{In}
 use Rattle.wire_msg.specs.declared.body.Body.TheVariants as body
 use Rattle.wire_msg.specs.declared.storage.Listed.{Listed}
 use Rattle.world_base.specs.declared.estate.Estate.{Estate}
 use Rattle.xfs_base.proofs.Alls.{all_append}
-use Rattle.xfs_base.proofs.Booleans.{by_test, contrary}
+use Rattle.xfs_base.proofs.Booleans.{and_first, and_second, by_test, contrary}
+use Rattle.xfs_base.proofs.SegmentNames.{one_name}
 use Rattle.xfs_base.specs.declared.fragment.FragMeta.{FragMeta}
 use Rattle.xfs_base.specs.declared.fragment.Fragment.{Fragment}
 use Rattle.xfs_base.specs.declared.node.NodeId.TheVariants as nodes
 use Rattle.xfs_base.specs.declared.segment.SegName.{SegName}
 use Rattle.xfs_base.specs.Limits.{u32_end}
+use Rattle.xfs_base.specs.Segments.{same_name}
 use Rattle.xfs_base.specs.Steps.{Stepped, steps, still}
 use Rattle.headline.specs.Moments.{moment, node_named}
-use Rattle.headline.specs.Numbers.{HasCome, HasTold, IsLacking, RoundStands, listed_by}
+use Rattle.headline.specs.Numbers.{HasCome, HasTold, IsLacking, IsReplyOf, IsToldOf, RoundStands, listed_by}
 use Rattle.headline.specs.Numbers.AreCounted.{NoneYet}
 use Rattle.headline.specs.Servers.{shelf_at}
 use Rattle.run_answers.proofs.number_law.Asking.{Leads, Open, fill_stands, next_leads, next_shelf, with_reading}
-use Rattle.run_answers.proofs.number_law.Awaiting.{all_told}
-use Rattle.run_answers.proofs.number_law.Evidence.{ListCame}
-use Rattle.run_answers.proofs.number_law.Running.{Behind, ListsSo, PresentSo, ReadingSo, ReadsSo, RunsSo, filled_one, gone_one, here, reading_later, round_taken}
+use Rattle.run_answers.proofs.number_law.Awaiting.{all_told, in_heard}
+use Rattle.run_answers.proofs.number_law.Evidence.{IsAskedAs, ListCame}
+use Rattle.run_answers.proofs.number_law.Running.{Behind, ListsSo, PresentSo, ReadingSo, ReadsSo, RunsSo, filled_one, gone_one, here, reading_later, round_of, round_taken}
 
 -- the server, once the rebuild has taken a step, and done what it says
 abbrev pub after : Node → Rebuilding → Stepped RebuildState Out → Done
@@ -61,16 +64,28 @@ filled_name : (w : Wanted) (text : List ℕ) → (refilled w text).meta.name ≡
 unfolding refilled
 filled_name w text = refl
 
+-- what counts in a round is a reply of its segment
+module _ (p : Present) (is : p.round ≡ round_of p.wanted p.round.answers) where
+  told_of : (what : Told) → is_of p.wanted what ≡ true → IsToldOf p.wanted what
+  told_of (Held f) fact = one_name f.meta.name p.wanted.meta.name (and_first (same_name f.meta.name p.wanted.meta.name) _ fact)
+  told_of (Missing generation) fact = tt
+
+  reply_of : (server : ℕ) (what : Told) → counts p server what ≡ true → IsReplyOf p.wanted (record { server = server; told = what })
+  reply_of server what fact = (
+    in_heard server p.wanted.others (subst (λ (x : RoundSoFar). asks x server ≡ true) is (and_first (asks p.round server) _ fact)),
+    told_of what (and_first (is_of p.wanted what) _ (and_second (asks p.round server) _ fact)),
+  )
+
 module _ (e : Estate AnyNode) (v count : ℕ) (node : Node) (r : Rebuilding)
-    (so : RunsSo e v count node.items.unanswered node.maps.groups r.rebuild) where
+    (so : RunsSo e v count node.items.unanswered node.maps.groups r.lists r.rebuild) where
   abbrev s : RebuildState
   s = r.rebuild
 
-  abbrev reading : ReadingSo e v so.begun (suc count) r.rebuild.heard r.rebuild.listed r.rebuild.reads
-  reading = reading_later e v so.begun count r.rebuild.heard r.rebuild.listed r.rebuild.reads so.reading
+  abbrev reading : ReadingSo e v so.begun (suc count) r.lists r.rebuild.heard r.rebuild.listed r.rebuild.reads
+  reading = reading_later e v so.begun count r.lists r.rebuild.heard r.rebuild.listed r.rebuild.reads so.reading
 
   -- it goes on with this rebuild, and says nothing
-  goes_on : (t : RebuildState) → t.server ≡ r.rebuild.server → t.groups ≡ r.rebuild.groups → ReadingSo e v so.begun (suc count) t.heard t.listed t.reads
+  goes_on : (t : RebuildState) → t.server ≡ r.rebuild.server → t.groups ≡ r.rebuild.groups → ReadingSo e v so.begun (suc count) r.lists t.heard t.listed t.reads
       → Leads e v count (after node r (still t))
   goes_on t server groups reads =
       let low = so.since in
@@ -94,14 +109,15 @@ module _ (e : Estate AnyNode) (v count : ℕ) (node : Node) (r : Rebuilding)
   -- ---- a list
 
   module _ (its : node_named (moment e count) (nodes.Server v) ≡ Some (any.Server node)) (server : ℕ) (m : Listed)
-      (come : HasCome e v so.begun (suc count) server (body.Listed m)) where
+      (come : HasCome e v so.begun (suc count) server (body.Listed m)) (under_way : node.rebuilding ≡ Some r) (its_ask : m.ask ≡ r.lists) where
     abbrev t : RebuildState
     t = heard_from r.rebuild server m.held
 
-    with_list : ListsSo e v so.begun (suc count) r.rebuild.heard r.rebuild.listed → ListsSo e v so.begun (suc count) t.heard t.listed
+    with_list : ListsSo e v so.begun (suc count) r.lists r.rebuild.heard r.rebuild.listed → ListsSo e v so.begun (suc count) r.lists t.heard t.listed
     with_list l = record {
       lists = l.lists ++ (server, m) ∷ [];
       come = all_append (ListCame e v so.begun (suc count)) l.lists ((server, m) ∷ []) l.come (come, tt);
+      asked = all_append (IsAskedAs r.lists) l.lists ((server, m) ∷ []) l.asked (its_ask, tt);
       heard_of = ap (λ (xs : List ℕ). xs ++ server ∷ []) l.heard_of ∙ sym (map-append (λ (list : ℕ × Listed). list.0) l.lists ((server, m) ∷ []));
       listed_of = ap (listed_with m.held) l.listed_of ∙ sym (listed_more l.lists (server, m));
     }
@@ -109,24 +125,30 @@ module _ (e : Estate AnyNode) (v count : ℕ) (node : Node) (r : Rebuilding)
     abbrev wanted : List Wanted
     wanted = wanted_in t.server t.groups (values_of (remove_names (barred node.shelf) t.listed))
 
-    lacking : (l : ListsSo e v so.begun (suc count) t.heard t.listed) → (length (awaited t) == 0) ≡ true → IsLacking e v so.begun (suc count) wanted
-    lacking l fact = record {
+    lacking : r.rebuild.reads ≡ None → (l : ListsSo e v so.begun (suc count) r.lists t.heard t.listed) → (length (awaited t) == 0) ≡ true
+        → IsLacking e v so.begun (suc count) wanted
+    lacking none l fact = record {
       place = count;
+      since = so.since;
       before = omega arith;
       node = node;
       its = its;
+      rebuilding = r;
+      under_way = under_way;
+      awaits = none;
       groups = r.rebuild.groups;
       known = so.known;
       lists = l.lists;
       come = l.come;
+      asked = l.asked;
       all = λ from one top other. subst (λ (xs : List ℕ). In from xs) l.heard_of (all_told t fact from one top (λ same. other (same ∙ so.server)));
       lacks = ap (λ (n : ℕ). wanted_in n t.groups (values_of (remove_names (barred node.shelf) t.listed))) so.server
           ∙ ap (λ (entries : List (SegName × FragMeta)). wanted_in v t.groups (values_of (remove_names (barred node.shelf) entries))) l.listed_of;
     }
 
-    begins : (l : ListsSo e v so.begun (suc count) t.heard t.listed) → (length (awaited t) == 0) ≡ true
+    begins : r.rebuild.reads ≡ None → (l : ListsSo e v so.begun (suc count) r.lists t.heard t.listed) → (length (awaited t) == 0) ≡ true
         → Leads e v count (after node r (rebuild_begin t (barred node.shelf)))
-    begins l fact =
+    begins none l fact =
         next_leads e v count node r (record t { listed = remove_names (barred node.shelf) t.listed }) wanted (reads_of wanted)
         (record {
           item = so.item;
@@ -138,7 +160,7 @@ module _ (e : Estate AnyNode) (v count : ℕ) (node : Node) (r : Rebuilding)
           known = so.known;
           behind = record {
             wanted = wanted;
-            lacking = lacking l fact;
+            lacking = lacking none l fact;
             over = [];
             many = 0;
             lost = 0;
@@ -151,11 +173,11 @@ module _ (e : Estate AnyNode) (v count : ℕ) (node : Node) (r : Rebuilding)
 
     heard : r.rebuild.reads ≡ None → Leads e v count (after node r (begun_if_all t (barred node.shelf)))
     heard none =
-        let l = with_list (subst (λ (o : Option ReadsState). ReadingSo e v so.begun (suc count) r.rebuild.heard r.rebuild.listed o) none reading) in
+        let l = with_list (subst (λ (o : Option ReadsState). ReadingSo e v so.begun (suc count) r.lists r.rebuild.heard r.rebuild.listed o) none reading) in
         by_test (λ (d : Stepped RebuildState Out). Leads e v count (after node r d)) (length (awaited t) == 0) (rebuild_begin t (barred node.shelf)) (still t)
-        (λ fact. begins l fact)
+        (λ fact. begins none l fact)
         (λ _. goes_on t refl refl
-        (subst (λ (o : Option ReadsState). ReadingSo e v so.begun (suc count) t.heard t.listed o) (sym none) l))
+        (subst (λ (o : Option ReadsState). ReadingSo e v so.begun (suc count) r.lists t.heard t.listed o) (sym none) l))
 
     pub listed : Leads e v count (after node r (on_listed r.rebuild server m.held (barred node.shelf)))
     unfolding on_listed
@@ -184,15 +206,15 @@ module _ (e : Estate AnyNode) (v count : ℕ) (node : Node) (r : Rebuilding)
     }
 
     module _ (reads : ReadsState) (p : Present) (left : Behind e v so.begun (suc count) (p.wanted ∷ reads.left) reads.filled reads.gone)
-        (present : PresentSo e v so.begun (suc count) p) where
+        (present : PresentSo e v so.begun (suc count) p) (fits : IsReplyOf p.wanted (record { server = server; told = what })) where
       abbrev round : RoundSoFar
       round = round_take p.round server what
 
       taken : PresentSo e v so.begun (suc count) (record { wanted = p.wanted; round = round })
-      taken = round_taken e v so.begun (suc count) p server what present told
+      taken = round_taken e v so.begun (suc count) p server what present fits told
 
       stands_so : (st : RoundState) → state_of round ≡ st → RoundStands e v so.begun (suc count) p.wanted st
-      stands_so st fact = record { replies = round.answers; come = taken.come; is = ap state_of (sym taken.is) ∙ fact }
+      stands_so st fact = record { replies = round.answers; come = taken.come; fit = taken.fit; is = ap state_of (sym taken.is) ∙ fact }
 
       -- a fragment is filled in
       fills : (text : List ℕ) → state_of round ≡ Read text → Goes (after node r (with_reads r.rebuild (reads_judge reads p.wanted round (Read text))))
@@ -239,7 +261,8 @@ module _ (e : Estate AnyNode) (v count : ℕ) (node : Node) (r : Rebuilding)
         let present = subst (λ (o : Option Present). IfSome o (PresentSo e v so.begun (suc count))) same h.present in
         by_test (λ (d : Stepped ReadsState Out). Goes (after node r (with_reads r.rebuild d))) ((own == reads.ask) && counts p server what)
         (reads_judge reads p.wanted (round_take p.round server what) (state_of (round_take p.round server what))) (still reads)
-        (λ _. judged reads p left present (state_of (round_take p.round server what)) refl)
+        (λ fact. judged reads p left present (reply_of p present.is server what (and_second (own == reads.ask) (counts p server what) fact))
+        (state_of (round_take p.round server what)) refl)
         (λ _ at. goes_on (record r.rebuild { reads = Some reads }) refl refl h)
 
     pub tells : Goes (after node r (told_by r.rebuild r.rebuild.reads own server what))
@@ -249,5 +272,5 @@ module _ (e : Estate AnyNode) (v count : ℕ) (node : Node) (r : Rebuilding)
         by : (o : Option ReadsState) → r.rebuild.reads ≡ o → Goes (after node r (told_by r.rebuild o own server what))
         by None same = λ at. stays
         by (Some reads) same =
-            reads_told reads (subst (λ (o : Option ReadsState). ReadingSo e v so.begun (suc count) r.rebuild.heard r.rebuild.listed o) same reading)
+            reads_told reads (subst (λ (o : Option ReadsState). ReadingSo e v so.begun (suc count) r.lists r.rebuild.heard r.rebuild.listed o) same reading)
             reads.present refl

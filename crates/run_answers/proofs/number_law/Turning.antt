@@ -1,5 +1,5 @@
 -- What a job of the cleaner makes of an input: it asks, it reads the next segment, it has one deleted, or it is over.
-use Rattle.std.proofs.Common.{◌≡◌, ◌⊎◌, ◌+◌, ◌==◌, ◌&&◌, min, not, ℕ, Bool, true, false, List, [], ◌∷◌, Option, None, Some, inl, inr, length, map, refl, sym, ap, subst, ◌∙◌, arith}
+use Rattle.std.proofs.Common.{◌≡◌, ◌⊎◌, ◌==◌, ◌&&◌, min, not, ℕ, Bool, true, false, List, [], ◌∷◌, Option, None, Some, inl, inr, length, map, refl, sym, ap, subst, ◌∙◌, arith}
 use Rattle.std.specs.List.{AllByRecursion, cons_option}
 use Rattle.group_map.specs.GroupMapState.{GroupMapState}
 use Rattle.segment_format.specs.declared.segment.Segment.{Segment}

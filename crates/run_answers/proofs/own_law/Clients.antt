@@ -253,7 +253,7 @@ module _ (client : ℕ) where
   -- ---- an item begins
 
   -- what is cut, and the item by which it is
-  cut_are : (o : Option ℕ) (number : ℕ)
+  pub cut_are : (o : Option ℕ) (number : ℕ)
       → its_acts me (answers_unanswered o answer.Cut ++ Answers number answer.Done ∷ []) ≡ answered_so me o answer.Cut ++ act.Answered me number answer.Done ∷ []
   cut_are None number = refl
   cut_are (Some item) number = refl

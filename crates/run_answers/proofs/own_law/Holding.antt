@@ -53,10 +53,10 @@ writes_then b (act.Wrote client block value ∷ xs) ys = by (writes_then b xs ys
 writes_then b (_ ∷ xs) ys = writes_then b xs ys
 
 -- it stays as it was; or held with a value, so many versions on
-record Same (h g : Held) : Type 0 where
-  mode : g.mode ≡ h.mode
-  ver : g.ver ≡ h.ver
-  value : g.value ≡ h.value
+pub record Same (h g : Held) : Type 0 where
+  pub mode : g.mode ≡ h.mode
+  pub ver : g.ver ≡ h.ver
+  pub value : g.value ≡ h.value
 
 pub record Keeps (h g : Held) (more : ℕ) : Type 0 where
   pub held : is_held h.mode ≡ true → is_held g.mode ≡ true
@@ -84,12 +84,12 @@ module _ (b : BlockId) where
   abbrev Stays : Serving → Serving → Type 0
   Stays s t = Same (held_at s b) (held_at t b)
 
-  itself : (h : Held) → Same h h
+  pub itself : (h : Held) → Same h h
   itself h = record { mode = refl; ver = refl; value = refl }
 
   -- ---- one call on blocks
 
-  needs_stays : (s : Serving) (block : BlockId) (mode : Mode) → Stays s (blocks_need s block mode).done.state
+  pub needs_stays : (s : Serving) (block : BlockId) (mode : Mode) → Stays s (blocks_need s block mode).done.state
   unfolding hand serving_follow follow_one on_need tokens_ask
   needs_stays s block mode =
       by_test After (must_ask (held_of s.tokens.blocks block) mode) (tokens_ask s.tokens block mode) (still s.tokens)
@@ -304,7 +304,7 @@ written_after t block value ver was = record {
   version = (let version = was.version in omega arith);
 }
 
-after_more : (h g : Held) (ver more : ℕ) → IsHeldAfter h ver 0 → Keeps h g more → IsHeldAfter g ver more
+pub after_more : (h g : Held) (ver more : ℕ) → IsHeldAfter h ver 0 → Keeps h g more → IsHeldAfter g ver more
 after_more h g ver more after keeps = record {
   held = keeps.held after.held;
   valued = keeps.valued;

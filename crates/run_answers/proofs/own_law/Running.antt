@@ -46,6 +46,27 @@ none_run (suc k) s none = ap (λ (r : Ran). if_goes r (run_upto k)) once
     once : run_once s ≡ record { done = still s; goes = false }
     once = ap (runs_call s) none
 
+-- ---- the first turn of a call
+
+module _ (k : ℕ) (s : Serving) (call : Call) where
+  -- what its call on blocks makes
+  abbrev pub turn_made : Made
+  turn_made = blocks_make (record s { call = None }) call.step
+
+  -- with the call open, and that answered so
+  pub first_turn : (a : Option BlockAnswer) → turn_made.answer ≡ a
+      → run_upto (suc k) (record s { call = Some call }) ≡ if_goes (ran call (record { done = turn_made.done; answer = a })) (run_upto k)
+  unfolding run_upto run_once
+  first_turn a is = ap (λ (x : Option BlockAnswer). if_goes (ran call (record { done = turn_made.done; answer = x })) (run_upto k)) is
+
+  -- then it goes on, and runs
+  pub turn_then : (d : Done) (a : BlockAnswer)
+      → if_goes (ran call (record { done = d; answer = Some a })) (run_upto k)
+      ≡ saying d.outs (saying (running_go_on d.state (plan_answered call.plan a)).outs (run_upto k (running_go_on d.state (plan_answered call.plan a)).state))
+  turn_then d a =
+      let g : Done = running_go_on d.state (plan_answered call.plan a) in
+      ap (λ (outs : List Effect). record { state = (run_upto k g.state).state; outs = outs }) (append_assoc d.outs g.outs (run_upto k g.state).outs)
+
 -- ---- a call that is one sync
 
 -- where it is open no more, it was answered, with nothing waiting for the log and nothing in flight
@@ -146,35 +167,21 @@ module _ (client : ℕ) where
       made : HasMade me u call.step m
       made = has_made me u call.step refl
 
-      -- the first turn
-      once : (a : Option BlockAnswer) → m.answer ≡ a → run_once t ≡ ran call (record { done = m.done; answer = a })
-      once a is = ap (λ (x : Option BlockAnswer). ran call (record { done = m.done; answer = x })) is
-
-      upto : (a : Option BlockAnswer) → m.answer ≡ a → run_upto (suc k) t ≡ if_goes (ran call (record { done = m.done; answer = a })) (run_upto k)
-      upto a is = ap (λ (r : Ran). if_goes r (run_upto k)) (once a is)
-
       by : ((t : Serving) (g : Going) → t.lasting.number ≡ client → t.call ≡ None → Stretched t g (on_and_runs k t g)) → (a : Option BlockAnswer) → m.answer ≡ a
           → Stretched s (On call) (saying [] (run_upto (suc k) t))
-      by rest None is = subst (Stretched s (On call)) (sym (upto None is)) (record {
+      by rest None is = subst (Stretched s (On call)) (sym (first_turn k s call None is)) (record {
         number = made.kept.number ∙ its;
         items = made.kept.items;
         acts = subst (λ (acts : List Act). EventStretch client s.lasting.items.unanswered (held_at (record m.done.state { call = Some call })) (On call) acts (Some call))
             (sym (ap (its_acts me) (append-nil m.done.outs) ∙ (made.acts ∙ ap (tells_acts me s.lasting.number call.step) is))) (Awaits refl refl);
       })
       by rest (Some a) is =
-          subst (Stretched s (On call)) (sym (upto (Some a) is ∙ again))
+          subst (Stretched s (On call)) (sym (first_turn k s call (Some a) is ∙ turn_then k s call m.done a))
           (told_then s m.done.state call a m.done.outs (on_and_runs k m.done.state (plan_answered call.plan a)) (subst (Fits call.step) is made.fits)
           (made.acts ∙ (ap (tells_acts me s.lasting.number call.step) is ∙ ap (λ (n : ℕ). told n call.step a) its)) made.kept.items
           (since_kept client m.done.state (on_and_runs k m.done.state (plan_answered call.plan a)) call.step a (made_after u call.step a is)
           (on_keeps client k m.done.state (plan_answered call.plan a) (made.kept.number ∙ its)))
           (rest m.done.state (plan_answered call.plan a) (made.kept.number ∙ its) made.none))
-        where
-          g : Done
-          g = running_go_on m.done.state (plan_answered call.plan a)
-
-          again : if_goes (ran call (record { done = m.done; answer = Some a })) (run_upto k)
-              ≡ saying m.done.outs (on_and_runs k m.done.state (plan_answered call.plan a))
-          again = ap (λ (outs : List Effect). record { state = (run_upto k g.state).state; outs = outs }) (append_assoc m.done.outs g.outs (run_upto k g.state).outs)
 
   -- it goes on so, and runs
   pub going_runs : (s : Serving) (g : Going) → s.lasting.number ≡ client → s.call ≡ None → Stretched s g (saying (running_go_on s g).outs (run (running_go_on s g).state))

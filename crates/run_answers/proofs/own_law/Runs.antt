@@ -109,7 +109,7 @@ module _ (e : Estate AnyNode) where
       by None fact = subst WorldSound (sym (moment_past e count fact)) all
       by (Some event) fact = subst WorldSound (sym (moment_next e count event fact)) (next_sound (moment e count) event all)
 
-  sound_at : (count : ℕ) → WorldSound (moment e count)
+  pub sound_at : (count : ℕ) → WorldSound (moment e count)
   sound_at zero = subst WorldSound (sym (moment_first e)) start_sound
   sound_at (suc count) = sound_next count (sound_at count)
 

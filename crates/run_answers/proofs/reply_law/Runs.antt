@@ -10,6 +10,7 @@ use Rattle.run_answers.proofs.reply_law.Managers.{manager_answers}
 use Rattle.run_answers.proofs.reply_law.Registries.{registry_answers}
 use Rattle.run_answers.proofs.reply_law.Servers.{server_answers}
 use Rattle.run_answers.proofs.reply_law.Shelves.{shelf_changes}
+use Rattle.run_answers.proofs.reply_law.Takes.{manager_takes}
 use Rattle.headline.specs.Dues.{has_counters}
 use Rattle.run_answers.specs.reply_law.Runs.{EachQuestionIsAnswered}
 use Rattle.headline.specs.Replies.{IsReplied, KeepsShelf}
@@ -17,7 +18,7 @@ use Rattle.headline.specs.Replies.{IsReplied, KeepsShelf}
 replied : (node : AnyNode) (what : Do) → has_counters node ≡ true → IsReplied node what (any_step node what)
 replied (any.Client c) what far = tt
 replied (any.Manager m) Begin far = tt
-replied (any.Manager m) (Deliver packet) far = λ well. manager_answers m packet far well
+replied (any.Manager m) (Deliver packet) far = λ well. (manager_answers m packet far well, manager_takes m packet far well)
 replied (any.Manager m) Tick far = tt
 replied (any.Server v) Begin far = tt
 replied (any.Server v) (Deliver packet) far = λ well known. server_answers v packet far well known

@@ -8,7 +8,8 @@ use Rattle.std.specs.Map.{keys_of, lookup, values_of}
 use Rattle.std.specs.Ordering.{eq_by_cmp, is_eq}
 use Rattle.client_node.specs.declared.phase.Phase.{Phase}
 use Rattle.client_node.specs.declared.phase.Phase.TheVariants.{Serving as Serves}
-use Rattle.client_node.specs.Phases.{client_has_room, lasting_of, client_tick}
+use Rattle.client_node.specs.declared.client.Client.{Client}
+use Rattle.client_node.specs.Phases.{client_has_room, client_step, client_tick, lasting_of}
 use Rattle.client_running.specs.Running.{run}
 use Rattle.client_serving.specs.declared.serving.Serving.{Serving}
 use Rattle.client_serving.specs.Flights.{held_at}
@@ -31,6 +32,7 @@ use Rattle.token_client.specs.Transition as tokens
 use Rattle.token_client.specs.Transition.{ask_again, is_spent, repeated, wanted_blocks}
 use Rattle.token_protocol.specs.Basics.{In}
 use Rattle.wire_msg.specs.declared.body.Body.{Body}
+use Rattle.wire_msg.specs.declared.packet.Do.TheVariants.{Tick}
 use Rattle.wire_msg.specs.declared.packet.Packet.{Packet}
 use Rattle.xfs_base.proofs.BlockOrder.{block_cmp_exact, block_cmp_total}
 use Rattle.xfs_base.proofs.Booleans.{by_test}
@@ -40,17 +42,16 @@ use Rattle.xfs_base.specs.declared.token.Mode.{Mode}
 use Rattle.xfs_base.specs.declared.node.NodeId.{NodeId}
 use Rattle.xfs_base.specs.declared.node.NodeId.TheVariants as nodes
 use Rattle.xfs_base.specs.Steps.{steps, still}
-use Rattle.run_answers.specs.wait_law.Again.{EachTickAsksAgain}
 use Rattle.headline.specs.Waits.{again_of}
 
 -- ---- lists
 
-in_front : {X : Type 0} (x : X) (xs ys : List X) → In x xs → In x (xs ++ ys)
+pub in_front : {X : Type 0} (x : X) (xs ys : List X) → In x xs → In x (xs ++ ys)
 in_front x [] ys among = absurd among
 in_front x (y ∷ xs) ys (inl e) = inl e
 in_front x (y ∷ xs) ys (inr among) = inr (in_front x xs ys among)
 
-in_behind : {X : Type 0} (x : X) (xs ys : List X) → In x ys → In x (xs ++ ys)
+pub in_behind : {X : Type 0} (x : X) (xs ys : List X) → In x ys → In x (xs ++ ys)
 in_behind x [] ys among = among
 in_behind x (y ∷ xs) ys among = inr (in_behind x xs ys among)
 
@@ -62,11 +63,11 @@ neither_second : (a b : Bool) → (a || b) ≡ false → b ≡ false
 neither_second true b none = absurd (let clash : true ≡ false = none in cc)
 neither_second false b none = none
 
-itself : (block : BlockId) → eq_by_cmp block_cmp block block ≡ true
+pub itself : (block : BlockId) → eq_by_cmp block_cmp block block ≡ true
 itself block = ap is_eq (tied_itself block_cmp_total block)
 
 -- what is sent is a packet
-sent : (me to : NodeId) (said : Body) (outs : List Effect) → In (Send to said) outs
+pub sent : (me to : NodeId) (said : Body) (outs : List Effect) → In (Send to said) outs
     → In (record { from = me; to = to; clock = 0; body = said }) (packets_of me outs)
 sent me to said [] among = absurd among
 sent me to said (o ∷ outs) (inl is) =
@@ -158,11 +159,11 @@ module _ (block : BlockId) (w : Wanted) where
 -- ---- what the tokens say is sent
 
 -- it is a want
-abbrev IsWant : Out → Type 0
+abbrev pub IsWant : Out → Type 0
 IsWant (Want block req count mode) = Unit {0}
 IsWant _ = ⊥
 
-abbrev Wants : List Out → Type 0
+abbrev pub Wants : List Out → Type 0
 Wants [] = Unit {0}
 Wants (o ∷ outs) = IsWant o × Wants outs
 
@@ -184,7 +185,7 @@ all_want : (bs : List BlockId) (t : TokensState) → Wants (steps ask_again t bs
 all_want [] t = tt
 all_want (b ∷ bs) t = wants_more (ask_again t b).outs (steps ask_again (ask_again t b).state bs).outs (one_wants t b) (all_want bs (ask_again t b).state)
 
-tick_wants : (t : TokensState) → Wants (tokens.on_tick t).outs
+pub tick_wants : (t : TokensState) → Wants (tokens.on_tick t).outs
 unfolding tokens.on_tick
 tick_wants t =
     by_test (λ (d : tokens.Done). Wants d.outs) (list_any (λ (h : Held). is_spent h.want) (values_of t.blocks)) (still t) (steps ask_again t (wanted_blocks t.blocks))
@@ -224,9 +225,18 @@ module _ (s : Serving) (block : BlockId) (w : Wanted) where
   unfolding client_tick
   time_so capacity none is = in_front told (on_tick s).outs (run (on_tick s).state).outs (tick_so none is)
 
-pub each_tick : EachTickAsksAgain
-each_tick c s serves room none block w is =
-    let packet : Packet = again_of s block w in
+-- what is sent at a tick
+pub at_tick : (c : Client) (s : Serving) → c.phase ≡ Serves s → client_has_room c ≡ true → (packet : Packet)
+    → In packet (packets_of (nodes.Client s.lasting.number) (client_tick c.cache (Serves s)).outs) → In packet (client_step c Tick).packets
+at_tick c s serves room packet among =
     subst (λ (p : Phase). In packet (packets_of (nodes.Client (lasting_of p).number) (cond (client_has_room c) (client_tick c.cache p) (still p)).outs)) (sym serves)
     (subst (λ (b : Bool). In packet (packets_of (nodes.Client s.lasting.number) (cond b (client_tick c.cache (Serves s)) (still (Serves s))).outs)) (sym room)
-    (sent (nodes.Client s.lasting.number) packet.to packet.body (client_tick c.cache (Serves s)).outs (time_so s block w c.cache none is)))
+    among)
+
+pub wants_again : (c : Client) (s : Serving) → c.phase ≡ Serves s → client_has_room c ≡ true
+    → list_any (λ (h : Held). is_spent h.want) (values_of s.tokens.blocks) ≡ false → (block : BlockId) (w : Wanted) → (held_at s block).want ≡ Some w
+    → In (again_of s block w) (client_step c Tick).packets
+wants_again c s serves room none block w is =
+    let packet : Packet = again_of s block w in
+    at_tick c s serves room packet
+    (sent (nodes.Client s.lasting.number) packet.to packet.body (client_tick c.cache (Serves s)).outs (time_so s block w c.cache none is))

@@ -1,4 +1,4 @@
--- At each moment of every run a client whose call is open has asked for what it lacks, and each want is sent again at each tick.
+-- In every run each event leaves a client whose call is open with all asked for that it lacks, and at each tick that is asked for again.
 use Rattle.core_world.specs.declared.any_node.AnyNode.{AnyNode}
 use Rattle.world_base.specs.declared.estate.Estate.{Estate}
 use Rattle.headline.specs.Waits.{CallsWait, WantsAgain}

@@ -1,5 +1,6 @@
 use Rattle.std.proofs.Common.{map, string_bytes}
 use Rattle.top_call.specs.Commands.{command_of}
+use Rattle.xfs_top.proofs.Accepted.{accepted}
 use Rattle.xfs_top.proofs.Answered.{disks_determine, played_within}
 use Rattle.xfs_top.proofs.AsOne.{played_as_one}
 use Rattle.xfs_top.proofs.Audited.{played_audited}
@@ -36,8 +37,8 @@ returns-clause-one_machine g c =
     let command = command_of (map string_bytes c.args.words.now) in
     let o = c.answer-outcome.result in
     played_as_one c.every_run_is_safe.ensures c.accepted_scripts_are_orderly.ensures.orderly c.all_quiet_scripts_are_answered.ensures.answered
-    c.unstopped_scripts_are_played.ensures.played command o.estate c.answer-outcome.ensures.claim.run
-    (disks_determine command o.estate o.disks c.answer-outcome.ensures.disks)
+    c.unstopped_scripts_are_played.ensures.played c.items_that_begin_alone_are_answered_in_line.ensures.runs c.items_of_one_client_begin_alone.ensures.runs command o.estate c.answer-outcome.ensures.claim.run
+    (disks_determine command o.estate o.disks c.answer-outcome.ensures.disks) (accepted command _ _ o c.answer-outcome.ensures.claim.ends)
 
 pub returns-clause-disks : goal.returns-clause-disks
 returns-clause-disks g c = c.answer-outcome.ensures.disks

@@ -7,6 +7,7 @@ use Rattle.top_call.specs.Commands.{command_of, reads}
 use Rattle.top_call.specs.Disks.{DisksOf}
 use Rattle.top_call.specs.Mounts.{MountsOf}
 use Rattle.top_call.proofs.Threads.{no_mounts, threads_read}
+use Rattle.xfs_top.proofs.Accepted.{accepted}
 use Rattle.xfs_top.proofs.Answered.{disks_determine, played_within}
 use Rattle.xfs_top.proofs.AsOne.{played_as_one}
 use Rattle.xfs_top.proofs.Audited.{played_audited}
@@ -53,9 +54,11 @@ returns-in-Some-clause-one_machine g c =
     let estate = c.answer_threads-outcome.result.estate in
     subst (λ command. IfSome estate (OneMachineOf command)) (sym c.in-Some.ensures.0)
     (played_as_one c.every_run_is_safe.ensures c.accepted_scripts_are_orderly.ensures.orderly c.all_quiet_scripts_are_answered.ensures.answered
-    c.unstopped_scripts_are_played.ensures.played (Some c.in-Some.command) estate c.answer_threads-outcome.ensures.claim.run
+    c.unstopped_scripts_are_played.ensures.played c.items_that_begin_alone_are_answered_in_line.ensures.runs c.items_of_one_client_begin_alone.ensures.runs (Some c.in-Some.command) estate
+    c.answer_threads-outcome.ensures.claim.run
     (disks_determine (Some c.in-Some.command) estate c.answer_threads-outcome.result.disks
-    (threads_leave_none c.in-Some.command c.in-Some.ensures.1 estate c.answer_threads-outcome.result.disks c.answer_threads-outcome.ensures.no_disks)))
+    (threads_leave_none c.in-Some.command c.in-Some.ensures.1 estate c.answer_threads-outcome.result.disks c.answer_threads-outcome.ensures.no_disks))
+    (accepted (Some c.in-Some.command) _ _ c.answer_threads-outcome.result c.answer_threads-outcome.ensures.claim.ends))
 
 pub returns-in-Some-clause-disks : goal.returns-in-Some-clause-disks
 returns-in-Some-clause-disks g c =

@@ -1,0 +1,6 @@
+mod Acts
+mod Lines
+mod Serving
+mod Openings
+mod Clients
+mod Runs
