@@ -1,8 +1,10 @@
--- A text that is appended in runs: bytes that stand for themselves wait, and are appended together.
+-- A text that is appended piece by piece, or in runs: bytes that stand for themselves wait, and are appended together.
 use Rattle.std.proofs.Common.{◌≡◌, ℕ, ◌+◌, ◌-◌, ◌<◌, ◌≤◌, Bool, true, cond, List, [], ◌∷◌, ◌++◌, length, take, drop, refl, sym, ap, ap₂, ◌∙◌, arith, append_assoc, append-nil, length-drop}
 use Rattle.std.specs.Prelude.{◌==◌, ◌/◌, ◌%◌, ◌||◌, slice_index, slice_range}
 use Rattle.std.proofs.lemmas.List.{drop_all, drop_more, get_or-drop, take_more}
 use Rattle.std.proofs.lemmas.List.Folds.{drop_split}
+use Rattle.std.specs.List.{list_all}
+use Rattle.xfs_base.proofs.Booleans.{and_first, and_second}
 use Rattle.script_text.specs.Text.{is_plain, hex_digit}
 use Rattle.script_print.specs.Printing.{byte_text, text_body}
 
@@ -14,6 +16,20 @@ one_plain : (b : ℕ) → is_plain b ≡ true → text_body (b ∷ []) ≡ b ∷
 one_plain b is =
     append-nil (byte_text b)
     ∙ ap (λ (t : Bool). cond t (b ∷ []) (cond ((b == 34) || (b == 92)) (92 ∷ b ∷ []) (92 ∷ 120 ∷ hex_digit (b / 16) ∷ hex_digit (b % 16) ∷ []))) is
+
+-- where each byte stands for itself, so does the text
+pub plain_body : (text : List ℕ) → list_all is_plain text ≡ true → text_body text ≡ text
+plain_body [] all = refl
+plain_body (b ∷ text) all =
+    body_append (b ∷ []) text
+    ∙ ap₂ (λ a c. a ++ c) (one_plain b (and_first (is_plain b) (list_all is_plain text) all)) (plain_body text (and_second (is_plain b) (list_all is_plain text) all))
+
+-- a piece was appended: what is there now, and then what is left, is still the whole
+pub piece_appended : (whole out new rest piece more : List ℕ) → out ++ text_body rest ≡ whole → rest ≡ piece ++ more → new ≡ out ++ text_body piece
+    → new ++ text_body more ≡ whole
+piece_appended whole out new rest piece more before cut last =
+    ap (λ l. l ++ text_body more) last ∙ append_assoc out (text_body piece) (text_body more) ∙ ap (λ l. out ++ l) (sym (ap text_body cut ∙ body_append piece more))
+    ∙ before
 
 -- the bytes before `from` were appended to what was there before, and those from there up to `at` stand for themselves
 pub record Appended (before now bytes : List ℕ) (from at : ℕ) : Type 0 where

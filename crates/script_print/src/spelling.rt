@@ -1,6 +1,7 @@
 //! The one spelling of numbers, nodes, texts and paths.
 ghost use Rattle.std.specs.Prelude.{◌≡◌, ◌<◌, ◌∷◌, ◌++◌, OnOk};
 ghost use Rattle.std.specs.Fmt.{decimal};
+ghost use Rattle.std.specs.List.{list_all};
 ghost use Rattle.script_text.specs.Text.{is_plain, hex_digit, quoted};
 ghost use Rattle.script_text.specs.Spelling.{slashed};
 ghost use Rattle.script_print.specs.Printing.{byte_text, text_body, path_text};
@@ -68,8 +69,22 @@ fn add_byte(out: &mut Text, b: u8) -> Mem<()>
     }
 }
 
+/// How many bytes of a text are asked at once whether all stand for themselves.
+const PIECE: usize = 256;
+
+/// Whether each of these bytes stands for itself. All are looked at, so that the machine looks at many at once.
+fn are_plain(bytes: &[u8]) -> bool
+    ensures { result ≡ list_all is_plain bytes.now }
+{
+    let mut plain = true;
+    for b in bytes {
+        plain = plain & is_plain(*b);
+    }
+    plain
+}
+
 /// Appends the bytes of a text; those that stand for themselves, in runs.
-fn add_body(out: &mut Text, bytes: &[u8]) -> Mem<()>
+fn add_runs(out: &mut Text, bytes: &[u8]) -> Mem<()>
     ensures { OnOk result (out.new ≡ out.old ++ text_body bytes.now) }
 {
     let mut from = 0;
@@ -82,6 +97,30 @@ fn add_body(out: &mut Text, bytes: &[u8]) -> Mem<()>
     }
     out.add(&bytes[from..])?;
     Ok(())
+}
+
+/// Appends the bytes of a text: all at once where each stands for itself.
+fn add_piece(out: &mut Text, bytes: &[u8]) -> Mem<()>
+    ensures { OnOk result (out.new ≡ out.old ++ text_body bytes.now) }
+{
+    if are_plain(bytes) {
+        out.add(bytes)
+    } else {
+        add_runs(out, bytes)
+    }
+}
+
+/// Appends the bytes of a text, piece by piece.
+fn add_body(out: &mut Text, bytes: &[u8]) -> Mem<()>
+    ensures { OnOk result (out.new ≡ out.old ++ text_body bytes.now) }
+{
+    let mut rest = bytes;
+    while PIECE < rest.len() {
+        let (piece, more) = rest.split_at(PIECE);
+        add_piece(out, piece)?;
+        rest = more;
+    }
+    add_piece(out, rest)
 }
 
 /// Appends a text between quotes.

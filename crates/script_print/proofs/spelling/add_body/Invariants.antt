@@ -1,6 +1,10 @@
-use Rattle.script_print.proofs.Runs.{Appended}
+use Rattle.std.proofs.Common.{◌≡◌, ◌++◌, length}
+use Rattle.script_print.specs.Printing.{text_body}
 use Rattle.script_print.proofs.spelling.add_body.Given as goal
 
--- what stands before a run is appended, and what is in it stands for itself
-abbrev pub invariant-loop-at : goal.invariant-loop-at
-invariant-loop-at l = Appended l.fn.out l.out l.bytes l.from l.at
+-- what was appended, and then what is left, is all
+abbrev pub invariant-loop-rest : goal.invariant-loop-rest
+invariant-loop-rest l = l.out ++ text_body l.rest ≡ l.fn.out ++ text_body l.bytes
+
+abbrev pub decreases-loop-rest : goal.decreases-loop-rest
+decreases-loop-rest l = length l.rest
