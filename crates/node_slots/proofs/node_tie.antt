@@ -9,11 +9,8 @@ pub mod AsksPackets
 pub mod AsksReads
 pub mod AsksTokens
 pub mod BooksLast
-pub mod CleanerEmptying
 pub mod CleanerEvents
 pub mod CleanerBooks
-pub mod CleanerJob
-pub mod CleanerLogging
 pub mod CleanerMoves
 pub mod CleanerServing
 pub mod CleanerTurns

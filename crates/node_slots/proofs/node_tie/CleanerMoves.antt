@@ -1,8 +1,9 @@
 -- Whatever a job of the cleaner takes in, what it moves are copies of what filed segments say, if what it is told to be live is.
-use Rattle.std.proofs.Common.{ℕ, ◌+◌, List, [], ◌∷◌, Option, Some, None, subst}
+use Rattle.std.proofs.Common.{◌≡◌, ℕ, true, ◌+◌, List, [], ◌∷◌, Option, Some, None, subst}
 use Rattle.std.specs.List.{AllByRecursion}
 use Rattle.xfs_base.proofs.Alls.{all_each, all_weaker}
 use Rattle.xfs_base.proofs.BlockOrder.{same_block_exact}
+use Rattle.xfs_base.specs.Blocks.{same_block}
 use Rattle.xfs_base.specs.declared.block.BlockId.{BlockId}
 use Rattle.xfs_base.specs.declared.entry.Entry.{Entry}
 use Rattle.segment_format.specs.declared.segment.Item.{Item}
@@ -11,7 +12,7 @@ use Rattle.stripe_cleaner.specs.Checks.{checks_of}
 use Rattle.stripe_cleaner.specs.CleaningState.{CleaningState}
 use Rattle.stripe_cleaner.specs.declared.checks.Check.{Check}
 use Rattle.stripe_cleaner.specs.declared.checks.Fate.{Fate}
-use Rattle.stripe_cleaner.specs.declared.checks.Fate.TheVariants.{Asked, Live, Moved, Dead}
+use Rattle.stripe_cleaner.specs.declared.checks.Fate.TheVariants.{Asked, Live}
 use Rattle.stripe_cleaner.specs.declared.input.In.{In as Input}
 use Rattle.stripe_cleaner.specs.declared.input.In.TheVariants as input
 use Rattle.stripe_cleaner.specs.declared.output.Out.{Out}
@@ -113,3 +114,14 @@ phase_grown k m grown (Counting c) h = tt
 phase_grown k m grown (Reading j seg) h = tt
 phase_grown k m grown (Deleting j seg servers) h = tt
 phase_grown k m grown Over h = tt
+
+-- and what it is told to be live is so still
+pub told_grown : (k m : Books) → Lasts k m → (block : BlockId) (entry : Entry) (p : Phase) → PhaseTold k block entry p → PhaseTold m block entry p
+told_grown k m grown block entry (Checking j seg checks) h =
+    all_weaker (λ (c : Check). same_block c.block block ≡ true → FateTold k block entry c.fate)
+    (λ (c : Check). same_block c.block block ≡ true → FateTold m block entry c.fate) (λ c told same. by c.fate (told same)) checks h
+  where
+    by : (fate : Fate) → FateTold k block entry fate → FateTold m block entry fate
+    by (Asked value) copy = copy_grown k m grown block _ copy
+    by _ copy = tt
+told_grown k m grown block entry _ h = tt

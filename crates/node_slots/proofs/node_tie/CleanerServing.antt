@@ -1,213 +1,217 @@
--- What a cleaner that serves does at each packet, in time, and when a job begins, leaves its log seen so in the small world.
-use Rattle.std.proofs.Common.{◌≤◌, ℕ, ◌==◌, ◌&&◌, Bool, true, false, List, [], ◌∷◌, Option, Some, None, is_some, nat_lt}
-use Rattle.std.specs.List.{AllByRecursion, range_with_len}
-use Rattle.xfs_base.proofs.Booleans.{by_test}
-use Rattle.xfs_base.specs.declared.news.SlotNews.{SlotNews}
-use Rattle.xfs_base.specs.declared.node.NodeId.{NodeId}
-use Rattle.xfs_base.specs.declared.node.NodeId.TheVariants as node
-use Rattle.xfs_base.specs.Steps.{still, saying, steps}
-use Rattle.client_log.specs.declared.input.In.{In as LogIn}
-use Rattle.client_log.specs.declared.input.In.TheVariants as log_in
-use Rattle.client_log.specs.declared.output.Out.{Out as LogOut}
-use Rattle.client_log.specs.declared.output.Out.TheVariants as log_out
-use Rattle.client_log.specs.Transition as log
-use Rattle.group_map.specs.GroupMapState.{GroupMapState}
-use Rattle.log_owner.specs.Promised.{epoch_of}
-use Rattle.log_owner.specs.Sending.{server_in}
-use Rattle.node_base.specs.Known.{names_known_groups}
-use Rattle.node_base.specs.Maps.{fits, is_older, maps_take}
-use Rattle.stripe_cleaner.specs.declared.input.In.TheVariants as input
-use Rattle.stripe_code.specs.declared.round.Told.TheVariants as told
-use Rattle.wire_msg.specs.declared.body.Body.{Body}
-use Rattle.wire_msg.specs.declared.body.Body.TheVariants as body
-use Rattle.wire_msg.specs.declared.deltas.DeltaAck.{DeltaAck}
-use Rattle.wire_msg.specs.declared.deltas.Poll.{Poll}
-use Rattle.wire_msg.specs.declared.packet.Packet.{Packet}
-use Rattle.wire_msg.specs.declared.registry.News.{News}
-use Rattle.wire_msg.specs.declared.registry.Welcome.{Welcome}
-use Rattle.cleaner_serving.specs.declared.emptying.Emptying.{Emptying}
-use Rattle.cleaner_serving.specs.EmptyingEvents.{emptying_renew, promise_slot, promise_all, with_new_job, begin_job, on_clean, fed, emptying_settle, write_one, emptying_write, on_ack, emptying_promise, emptying_report, on_poll, hear_slot, hear_slots, regroup_job, regroup_log, take_news, on_news, welcome_over, emptying_welcome, on_welcome, on_body, ask_for_maps, on_packet, on_tick}
-use Rattle.cleaner_serving.specs.Jobs.{Done, emptying_clean}
+-- What an event makes of a cleaner that serves leaves its log seen so in the small world, and what waits in it, and is to be moved, copies of what filed
+-- segments say: at each of the moves of which the event is made. One that falls leaves the books as they were before the event.
+use Rattle.std.proofs.Common.{◌≡◌, ◌≤◌, ℕ, Bool, true, false, Option, Some, None, refl, sym, subst, ◌∙◌}
+use Rattle.std.specs.Prelude.{IfSome}
 use Rattle.cleaner_job.specs.declared.job.Job.{Job}
-use Rattle.cleaner_job.specs.Jobs.{note_moved, hello_of, note_greeted, is_out}
+use Rattle.cleaner_job.specs.declared.lasting.Lasting.{Lasting}
+use Rattle.cleaner_job.specs.Jobs.{note_moved}
+use Rattle.cleaner_node.specs.CleanerEvents.{Went_to, restart, serves_on, takes}
+use Rattle.cleaner_node.specs.declared.cleaner.Cleaner.{Cleaner}
+use Rattle.cleaner_node.specs.declared.cleaner.Phase.{Phase}
+use Rattle.cleaner_node.specs.declared.cleaner.Phase.TheVariants.{Down, Opening, Serving as Serves}
+use Rattle.cleaner_serving.specs.declared.emptying.Emptying.{Emptying}
+use Rattle.cleaner_serving.specs.Jobs.{emptying_put}
+use Rattle.client_log.specs.declared.input.In.{In as LogIn}
+use Rattle.client_log.specs.declared.output.Out.{Out as LogOut}
+use Rattle.client_log.specs.Transition as log
+use Rattle.node_base.specs.declared.effects.Effect.{Effect}
+use Rattle.node_base.specs.declared.items.Items.{Items}
+use Rattle.log_owner.specs.Sending.{push_all}
+use Rattle.node_moves.proofs.cleaner_moves.Keeping.{Changes, Follows, JobKeeps, Keeps, LogKeeps, Put, event_goes, its, written}
+use Rattle.node_moves.proofs.cleaner_moves.Keeping.Changes.{JobBegun, JobEnded}
+use Rattle.node_moves.proofs.cleaner_moves.Keeping.Put.{AllPut, BlockPut}
+use Rattle.node_moves.specs.cleaner_moves.Moves.{Given, Written, noted}
+use Rattle.node_moves.specs.cleaner_moves.Moves.Given.{LiveCame}
+use Rattle.node_moves.specs.cleaner_moves.Moves.Written.{AckCame, GroupsCame, LogTicks}
+use Rattle.stripe_cleaner.specs.declared.input.In.{In as Input}
+use Rattle.stripe_cleaner.specs.declared.output.Out.{Out}
+use Rattle.stripe_cleaner.specs.declared.output.Out.TheVariants as out
+use Rattle.stripe_cleaner.specs.Transition.{transition}
 use Rattle.token_law.specs.Books.{Books}
-use Rattle.node_slots.specs.node_tie.CleanerLogs.{its_log, ServesCopies, ServingTold}
-use Rattle.node_slots.proofs.node_tie.CleanerBooks.{PutCopies}
-use Rattle.node_slots.proofs.node_tie.CleanerLogging.{JobCopies, Gone, stays, and_then, all_steps, log_taken, job_goes_on, list_came, usage_came, live_came, dead_came, deleted_came, told_came}
+use Rattle.wire_msg.specs.declared.packet.Do.{Do}
+use Rattle.xfs_base.proofs.Alls.{all_each, all_weaker}
+use Rattle.xfs_base.proofs.Booleans.{contrary}
+use Rattle.xfs_base.specs.Steps.{still}
+use Rattle.node_slots.specs.node_tie.CleanerLogs.{its_log, AreCopies, CleanerTold, PacketTold, PhaseCopies, PhaseTold, ServesCopies, ServingTold}
+use Rattle.node_slots.specs.node_tie.LogRows.{LogSeen, rows_waiting}
+use Rattle.node_slots.proofs.node_tie.BooksLast.{Lasts, lasts_still, lasts_through}
+use Rattle.node_slots.proofs.node_tie.CleanerBooks.{BooksGo, PutCopies, books_stay, books_through, copy_grown, log_goes}
+use Rattle.node_slots.proofs.node_tie.CleanerMoves.{InputTold, MoveCopies, OutCopies, cleaning_copies, phase_grown, told_grown}
 
-module _ (members part : ℕ) (few : members ≤ its_log) where
-  abbrev Goes : Books → Emptying → Type 0
-  Goes k e = Gone members part few k e
+abbrev pub JobCopies : Books → Option Job → Type 0
+JobCopies k job = IfSome job (λ (j : Job). PhaseCopies k j.cleaning.phase)
 
-  -- what it becomes of a step
-  abbrev GoesTo : Books → Done → Type 0
-  GoesTo k d = Gone members part few k d.state
+-- what is to be moved stays so as the books grow
+pub job_grown : (k m : Books) → Lasts k m → (job : Option Job) → JobCopies k job → JobCopies m job
+job_grown k m lasts None its_own = tt
+job_grown k m lasts (Some job) its_own = phase_grown k m lasts job.cleaning.phase its_own
 
-  nothing_asked : {X : Type 0} (xs : List X) → AllByRecursion (λ (x : X). Unit {0}) xs
-  nothing_asked [] = tt
-  nothing_asked (x ∷ xs) = (tt, nothing_asked xs)
+out_grown : (k m : Books) → Lasts k m → (o : Out) → OutCopies k o → OutCopies m o
+out_grown k m grown (out.Move blocks) copies = all_weaker (MoveCopies k) (MoveCopies m) (λ one copy. copy_grown k m grown one.0 _ copy) blocks copies
+out_grown k m grown _ copies = tt
 
-  as_was : (k : Books) (e : Emptying) → ServesCopies k e → Goes k e
-  as_was k e h = stays members part few k e h
+moved_kept : (k : Books) (job : Option Job) → JobCopies k job → JobCopies k (note_moved job)
+moved_kept k None its_own = tt
+moved_kept k (Some job) its_own = its_own
 
-  -- ---- a job begins
+-- the books, while it serves, or as they were before the event
+record Moment : Type 0 where
+  books : Books
+  serves : Bool
 
-  slot_promised : (k : Books) (e : Emptying) (slot : ℕ) → ServesCopies k e → Unit {0} → GoesTo k (promise_slot e slot)
-  unfolding promise_slot
-  slot_promised k e slot h no_more = job_goes_on members part few k e (input.Promise slot (epoch_of e.promised slot)) h (λ p. tt)
+abbrev Later : Moment → Moment → Type 0
+Later u v = v.serves ≡ true → (u.serves ≡ true) × Lasts u.books v.books
 
-  job_begun : (k : Books) (e : Emptying) (number count : ℕ) → ServesCopies k e → GoesTo k (begin_job e number count)
-  unfolding begin_job promise_all
-  job_begun k e number count h =
-      let f : Emptying = with_new_job e number count in
-      let d : Done = steps promise_slot f (range_with_len 0 8) in
-      let p = all_steps members part few promise_slot (λ k x. Unit {0}) (λ k m grown x o. tt) slot_promised k f (range_with_len 0 8)
-      (record { seen = h.seen; waits = h.waits; job = tt }) (nothing_asked (range_with_len 0 8)) in
-      and_then members part few k d.state (emptying_clean d.state input.Tick).state p (job_goes_on members part few p.next d.state input.Tick p.copies (λ p. tt))
+later_on : (u v w : Moment) → Later u v → Later v w → Later u w
+later_on u v w a b serves = (let y = b serves in let x = a y.0 in (x.0, lasts_through u.books v.books w.books x.1 y.1))
 
-  pub cleaning_wished : (k : Books) (e : Emptying) (number count : ℕ) → ServesCopies k e → GoesTo k (on_clean e number count)
-  unfolding on_clean
-  cleaning_wished k e number count h =
-      by_test (GoesTo k) (is_some e.lasting.items.unanswered) _ (begin_job e number count) (λ t. as_was k e h) (λ t. job_begun k e number count h)
+module _ (members part : ℕ) (few : members ≤ its_log) (k : Books) where
+  -- what it is then: the books went on while it serves, and are as they were where it fell
+  abbrev pub GoneTo : Books → Phase → Type 0
+  GoneTo m (Down l) = m ≡ k
+  GoneTo m (Opening l o) = m ≡ k
+  GoneTo m (Serves e) = BooksGo members part few k m × ServesCopies m e
 
-  -- ---- the log
+module _ (members part : ℕ) (few : members ≤ its_log) (adopted : Bool) (k : Books) (first : Cleaner) (what : Do) (before : Emptying)
+    (same : first.phase ≡ Serves before) (owed : CleanerTold k adopted first.phase what) where
+  abbrev start : Moment
+  start = record { books = k; serves = true }
 
-  moved_kept : (k : Books) (job : Option Job) → JobCopies k job → JobCopies k (note_moved job)
-  moved_kept k None its = tt
-  moved_kept k (Some job) its = its
+  abbrev Fallen : Moment → Type 0
+  Fallen w = (w.serves ≡ false) × (w.books ≡ k)
 
-  one_written : (k : Books) (e : Emptying) (o : LogOut) → ServesCopies k e → Unit {0} → GoesTo k (write_one e o)
-  unfolding write_one emptying_settle
-  one_written k e (log_out.Send fragment member) h no_more = as_was k e h
-  one_written k e (log_out.Settled end rows) h no_more =
-      job_goes_on members part few k (fed e end rows) input.Moved (record { seen = h.seen; waits = h.waits; job = moved_kept k e.job h.job }) (λ p. tt)
+  abbrev At : Moment → Phase → Type 0
+  At w (Down l) = Fallen w
+  At w (Opening l o) = Fallen w
+  At w (Serves e) = (w.serves ≡ true) × BooksGo members part few k w.books × LogSeen w.books its_log e.log × AreCopies w.books (rows_waiting e.log)
+      × JobCopies w.books e.job
 
-  log_takes : (k : Books) (e : Emptying) (i : LogIn) → ServesCopies k e → PutCopies members part few k i → GoesTo k (emptying_write e i)
-  unfolding emptying_write
-  log_takes k e i h copy =
-      let r = log.transition e.log i in
-      let f : Emptying = record e { log = r.state } in
-      let p = log_taken members part few k e i h copy in
-      and_then members part few k f (steps write_one f r.outs).state p
-      (all_steps members part few write_one (λ k x. Unit {0}) (λ k m grown x o. tt) one_written p.next f r.outs p.copies (nothing_asked r.outs))
+  record Goes (w : Moment) (d : Went_to) : Type 0 where
+    next : Moment
+    later : Later w next
+    at : At next d.state
 
-  acknowledged : (k : Books) (e : Emptying) (m : DeltaAck) → ServesCopies k e → GoesTo k (on_ack e m)
-  unfolding on_ack
-  acknowledged k e m h =
-      by_test (GoesTo k) (epoch_of e.promised m.slot == m.epoch) _ (still e) (λ t. as_was k _ (record { seen = h.seen; waits = h.waits; job = h.job }))
-      (λ t. as_was k e h)
+  later_now : (w : Moment) → Later w w
+  later_now w serves = (serves, lasts_still w.books)
 
-  -- ---- promises
+  stays : (w : Moment) (d : Went_to) → At w d.state → Goes w d
+  stays w d h = record { next = w; later = later_now w; at = h }
 
-  renewed : (k : Books) (e : Emptying) (slot epoch : ℕ) → ServesCopies k e → ServesCopies k (emptying_renew e slot epoch)
-  renewed k e slot epoch h =
-      by_test (ServesCopies k) (nat_lt (epoch_of e.promised slot) epoch) _ e (λ t. record { seen = h.seen; waits = h.waits; job = h.job }) (λ t. h)
+  goes_from : (w v : Moment) (d : Went_to) → Later w v → Goes v d → Goes w d
+  goes_from w v d later g = record { next = g.next; later = later_on w v g.next later g.later; at = g.at }
 
-  promised : (k : Books) (e : Emptying) (slot epoch manager : ℕ) → ServesCopies k e → ServesCopies k (emptying_promise e slot epoch manager)
-  unfolding emptying_promise
-  promised k e slot epoch manager h = (let r = renewed k e slot epoch h in record { seen = r.seen; waits = r.waits; job = r.job })
+  -- of what it says nothing is asked, and of what its job says that it is to move copies
+  abbrev AnyDone : Moment → Effect → Type 0
+  AnyDone w effect = Unit {0}
 
-  reported : (k : Books) (e : Emptying) (manager : ℕ) (m : Poll) → ServesCopies k e → GoesTo k (emptying_report e manager m)
-  reported k e manager m h =
-      job_goes_on members part few k (emptying_promise e m.slot m.epoch manager) (input.Promise m.slot m.epoch) (promised k e m.slot m.epoch manager h) (λ p. tt)
+  abbrev AnySaid : Moment → LogOut → Type 0
+  AnySaid w o = Unit {0}
 
-  poll_heard : (k : Books) (e : Emptying) (from : NodeId) (m : Poll) → ServesCopies k e → GoesTo k (on_poll e from m)
-  unfolding on_poll
-  poll_heard k e (node.Manager manager) m h =
-      by_test (GoesTo k) (nat_lt m.epoch (epoch_of e.promised m.slot)) (still e) (emptying_report e manager m) (λ t. as_was k e h) (λ t. reported k e manager m h)
-  poll_heard k e (node.Client n) m h = as_was k e h
-  poll_heard k e (node.Server n) m h = as_was k e h
-  poll_heard k e node.Cleaner m h = as_was k e h
-  poll_heard k e node.Registry m h = as_was k e h
+  abbrev Due : Moment → Out → Type 0
+  Due w o = w.serves ≡ true → OutCopies w.books o
 
-  -- ---- the maps
+  follows : Follows Moment Later At AnyDone Goes
+  follows = record {
+    now = later_now;
+    on = later_on;
+    says = λ w p outs h all. stays w (record { state = p; outs = outs }) h;
+    goes_on = λ w d e g more. (let x = more g.next g.later g.at in record { next = x.next; later = later_on w g.next x.next g.later x.later; at = x.at });
+  }
 
-  slot_heard : (k : Books) (e : Emptying) (news : SlotNews) → ServesCopies k e → Unit {0} → GoesTo k (hear_slot e news)
-  unfolding hear_slot
-  slot_heard k e news h no_more =
-      by_test (GoesTo k) (nat_lt (epoch_of e.promised news.slot) news.epoch) _ (still e)
-      (λ t. job_goes_on members part few k (emptying_promise e news.slot news.epoch news.manager) (input.Promise news.slot news.epoch)
-      (promised k e news.slot news.epoch news.manager h) (λ p. tt))
-      (λ t. as_was k e h)
+  -- ---- its job, and its log
 
-  slots_heard : (k : Books) (e : Emptying) (slots : List SlotNews) → ServesCopies k e → GoesTo k (hear_slots e slots)
-  unfolding hear_slots
-  slots_heard k e slots h = all_steps members part few hear_slot (λ k x. Unit {0}) (λ k m grown x o. tt) slot_heard k e slots h (nothing_asked slots)
+  changes_so : (w : Moment) (e f : Emptying) → Changes first what (Due w) e f → At w (Serves e) → Goes w (serves_on (still f))
+  changes_so w e f (JobBegun count) h = stays w (serves_on (still f)) (h.0, h.1, h.2, h.3, tt)
+  changes_so w e f JobEnded h = stays w (serves_on (still f)) (h.0, h.1, h.2, h.3, tt)
+  changes_so w e f _ h = stays w (serves_on (still f)) h
 
-  job_hears_groups : (k : Books) (e : Emptying) (newer : Bool) (groups : GroupMapState) → ServesCopies k e → GoesTo k (regroup_job e newer groups)
-  job_hears_groups k e true groups h = job_goes_on members part few k e (input.Maps groups) h (λ p. tt)
-  job_hears_groups k e false groups h = as_was k e h
+  -- a Live that comes tells what is so
+  given_so : (w : Moment) (e : Emptying) (job : Job) (given : Input) → e.job ≡ Some job → Lasts k w.books → Given first what e given
+      → InputTold w.books job.cleaning.phase given
+  given_so w e job given has lasts (LiveCame packet m its_own came asked) =
+      told_grown k w.books lasts m.block m.entry job.cleaning.phase
+      (subst (λ o. IfSome o (λ (j : Job). PhaseTold k m.block m.entry j.cleaning.phase)) has
+      (subst (ServingTold k e) came.says
+      (subst (λ p. PacketTold k adopted p packet) its_own (subst (CleanerTold k adopted first.phase) came.event owed)) asked))
+  given_so w e job given has lasts _ = tt
 
-  log_hears_groups : (k : Books) (e : Emptying) (newer : Bool) (groups : GroupMapState) → ServesCopies k e → GoesTo k (regroup_log e newer groups)
-  log_hears_groups k e true groups h = log_takes k e (log_in.Maps groups) h tt
-  log_hears_groups k e false groups h = as_was k e h
+  -- the log takes an input
+  log_so : (w : Moment) (e : Emptying) (i : LogIn) → PutCopies members part few w.books i → At w (Serves e)
+      → Goes w (serves_on (still (record e { log = (log.transition e.log i).state })))
+  log_so w e i copy h =
+      let t = log_goes members part few w.books e.log i h.2 h.3 copy in
+      record {
+        next = record { books = t.next; serves = true };
+        later = λ serves. (h.0, t.goes.lasts);
+        at = (refl, books_through members part few k w.books t.next h.1 t.goes, t.seen, t.waits, job_grown w.books t.next t.goes.lasts e.job h.4);
+      }
 
-  news_taken : (k : Books) (e : Emptying) (news : News) → ServesCopies k e → GoesTo k (take_news e news)
-  unfolding take_news
-  news_taken k e news h =
-      let newer : Bool = is_older e.maps news in
-      let with_maps : Emptying = record e { maps = maps_take e.maps news } in
-      let a : Done = regroup_job with_maps newer news.groups in
-      let b : Done = hear_slots a.state news.slots in
-      let p = job_hears_groups k with_maps newer news.groups (record { seen = h.seen; waits = h.waits; job = h.job }) in
-      let q = and_then members part few k a.state b.state p (slots_heard p.next a.state news.slots p.copies) in
-      and_then members part few k b.state (regroup_log b.state newer news.groups).state q (log_hears_groups q.next b.state newer news.groups q.copies)
+  put_so : (w : Moment) (e : Emptying) (i : LogIn) → Put (Due w) i → At w (Serves e) → Goes w (serves_on (emptying_put e i))
+  unfolding emptying_put
+  put_so w e i (BlockPut block entry value due) h = (let g = log_so w e i (due h.0).0 h in record { next = g.next; later = g.later; at = g.at })
+  put_so w e i AllPut h = (let g = log_so w e i tt h in record { next = g.next; later = g.later; at = g.at })
 
-  news_heard : (k : Books) (e : Emptying) (news : News) → ServesCopies k e → GoesTo k (on_news e news)
-  news_heard k e news h = by_test (GoesTo k) (fits e.maps news) (take_news e news) (still e) (λ t. news_taken k e news h) (λ t. as_was k e h)
+  written_copies : (w : Moment) (e : Emptying) (i : LogIn) → Written first what e i → PutCopies members part few w.books i
+  written_copies w e i (AckCame packet m its_own came) = tt
+  written_copies w e i (GroupsCame old packet news its_own as_was brought) = tt
+  written_copies w e i LogTicks = tt
 
-  welcomed_over : (k : Books) (e : Emptying) (slots : List SlotNews) (groups : Option GroupMapState) → ServesCopies k e
-      → GoesTo k (welcome_over e slots groups)
-  welcomed_over k e slots None h = as_was k e h
-  welcomed_over k e slots (Some groups) h = job_goes_on members part few k e (input.Welcome slots groups) h (λ p. tt)
+  of_job : JobKeeps first what Moment Later At AnyDone Goes start Due
+  of_job = record {
+    due = λ u v later o due serves. (let x = later serves in out_grown u.books v.books x.1 o (due x.0));
+    apart = λ w one blocks due. (λ serves. ((due serves).0, tt), λ serves. (due serves).1);
+    changes = changes_so;
+    gives = λ w e effect given h. tt;
+    takes = λ w e job given later came h d next.
+        (let c = cleaning_copies w.books job.cleaning given h.4 (given_so w (its e job) job given refl (later h.0).1 came) in
+        next w (later_now w) (h.0, h.1, h.2, h.3, c.phase)
+        (all_weaker (OutCopies w.books) (Due w) (λ o copies serves. copies) (transition job.cleaning given).outs c.outs));
+    puts = put_so;
+  }
 
-  greeted_kept : (k : Books) (job : Option Job) → JobCopies k job → JobCopies k (note_greeted job)
-  greeted_kept k None its = tt
-  greeted_kept k (Some job) its = its
+  of_log : LogKeeps first what Moment Later At AnyDone Goes start AnySaid
+  of_log = record {
+    due = λ u v later o due. tt;
+    takes = λ w e i later came h d next.
+        (let g = log_so w e i (written_copies w e i came) h in
+        goes_from w g.next d g.later (next g.next g.later g.at (all_each (λ o. Unit {0}) (λ o. tt) (log.transition e.log i).outs)));
+    sends = λ w e f m due h. tt;
+    files = λ w e end rows due h. stays w _ (h.0, h.1, h.2, h.3, moved_kept w.books e.job h.4);
+  }
 
-  job_welcomed : (k : Books) (e : Emptying) (m : Welcome) → ServesCopies k e → GoesTo k (emptying_welcome e m)
-  unfolding emptying_welcome
-  job_welcomed k e m h =
-      by_test (GoesTo k) (is_out (hello_of e.job) m.ask) (welcome_over (record e { job = note_greeted e.job }) m.news.slots e.maps.groups) (still e)
-      (λ t. welcomed_over k (record e { job = note_greeted e.job }) m.news.slots e.maps.groups
-      (record { seen = h.seen; waits = h.waits; job = greeted_kept k e.job h.job }))
-      (λ t. as_was k e h)
+  -- ---- the event
 
-  welcome_heard : (k : Books) (e : Emptying) (m : Welcome) → ServesCopies k e → GoesTo k (on_welcome e m)
-  unfolding on_welcome
-  welcome_heard k e m h =
-      let d : Done = take_news e m.news in
-      by_test (GoesTo k) ((m.inc == e.lasting.inc) && fits e.maps m.news) (saying d.outs (emptying_welcome d.state m)) (still e)
-      (λ t. let p = news_taken k e m.news h in and_then members part few k d.state (emptying_welcome d.state m).state p (job_welcomed p.next d.state m p.copies))
-      (λ t. as_was k e h)
+  items_so : (w : Moment) (p : Phase) (items : Items) → At w p → At w (noted p items)
+  items_so w (Down l) items h = h
+  items_so w (Opening l o) items h = h
+  items_so w (Serves e) items h = h
 
-  -- ---- packets and time
+  restarts_so : (w : Moment) (l : Lasting) (number : ℕ) → Fallen w → Goes w (restart first.peers.servers l number)
+  unfolding restart
+  restarts_so w l number h = record { next = w; later = later_now w; at = h }
 
-  body_heard : (k : Books) (e : Emptying) (from : NodeId) (said : Body) → ServingTold k e said → ServesCopies k e → GoesTo k (on_body e from said)
-  body_heard k e from (body.MapNews m) owed h = news_heard k e m h
-  body_heard k e from (body.Welcome m) owed h = welcome_heard k e m h
-  body_heard k e from (body.Poll m) owed h = poll_heard k e from m h
-  body_heard k e from (body.DeltaAck m) owed h = acknowledged k e m h
-  body_heard k e from (body.Stored m) owed h = log_takes k e (log_in.Acked m.name m.index m.generation) h tt
-  body_heard k e from (body.Listed m) owed h = list_came members part few k e (server_in from) m h
-  body_heard k e from (body.Usage m) owed h = usage_came members part few k e m h
-  body_heard k e from (body.Fragment m) owed h = told_came members part few k e (server_in from) m.ask (told.Held m.fragment) h
-  body_heard k e from (body.Missing m) owed h = told_came members part few k e (server_in from) m.ask (told.Missing m.generation) h
-  body_heard k e from (body.Live m) owed h = live_came members part few k e m h owed
-  body_heard k e from (body.Dead m) owed h = dead_came members part few k e m h
-  body_heard k e from (body.Deleted m) owed h = deleted_came members part few k e (server_in from) m h
-  body_heard k e from _ owed h = as_was k e h
+  of_events : Keeps first what Moment Later At AnyDone Goes start
+  of_events = record {
+    items = λ w p items for h. items_so w p items h;
+    answers = λ w number a due. tt;
+    falls = λ w p h. record { next = record { books = k; serves = false }; later = λ serves. contrary serves; at = (refl, refl) };
+    restarts = λ w l number taken event following h. restarts_so w l number h;
+    opens = λ w l o x later taken opening by h. (let clash : Opening l o ≡ Serves before = sym opening ∙ same in absurd cc);
+    writes = λ w e i later came h. written first what Moment Later At AnyDone Goes start Due follows of_job AnySaid of_log w e i later came h;
+    pushes = λ w e h. all_each (λ effect. Unit {0}) (λ effect. tt) (push_all e.promised.managers e.feed);
+  }
 
-  pub packet_heard : (k : Books) (e : Emptying) (packet : Packet) → ServingTold k e packet.body → ServesCopies k e → GoesTo k (on_packet e packet)
-  unfolding on_packet
-  packet_heard k e packet owed h =
-      by_test (GoesTo k) (names_known_groups e.maps packet.body) (on_body e packet.from packet.body) (ask_for_maps e)
-      (λ t. body_heard k e packet.from packet.body owed h)
-      (λ t. as_was k _ (record { seen = h.seen; waits = h.waits; job = h.job }))
+  gone_so : (w : Moment) (p : Phase) → At w p → GoneTo members part few k w.books p
+  gone_so w (Down l) h = h.1
+  gone_so w (Opening l o) h = h.1
+  gone_so w (Serves e) h = (h.1, record { seen = h.2; waits = h.3; job = h.4 })
 
-  pub time_passes : (k : Books) (e : Emptying) → ServesCopies k e → GoesTo k (on_tick e)
-  unfolding on_tick
-  time_passes k e h =
-      let j : Done = emptying_clean e input.Tick in
-      let p = job_goes_on members part few k e input.Tick h (λ p. tt) in
-      and_then members part few k j.state (emptying_write j.state log_in.Tick).state p (log_takes p.next j.state log_in.Tick p.copies tt)
+  pub record Gone (p : Phase) : Type 0 where
+    pub next : Books
+    pub at : GoneTo members part few k next p
+
+  pub event_gone : ServesCopies k before → Gone (takes first.peers first.phase what).state
+  event_gone h =
+      let g = event_goes first what Moment Later At AnyDone Goes start Due follows of_job of_events
+      (subst (At start) (sym same) (refl, books_stay members part few k, h.seen, h.waits, h.job)) in
+      record { next = g.next.books; at = gone_so g.next (takes first.peers first.phase what).state g.at }

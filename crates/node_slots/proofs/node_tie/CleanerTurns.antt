@@ -1,5 +1,5 @@
 -- Each event of the cleaner is a run of the small world, in which the books of its log alone change, and its acts are done.
-use Rattle.std.proofs.Common.{◌≡◌, ◌≤◌, ℕ, suc, Bool, true, false, List, map, Option, Some, None, All, refl, sym, ap, subst, ◌∙◌}
+use Rattle.std.proofs.Common.{◌≡◌, ◌≤◌, ℕ, suc, Bool, true, false, cond, List, map, Option, Some, None, All, refl, sym, ap, subst, ◌∙◌}
 use Rattle.std.proofs.lemmas.List.Elements.{recursion_from_All}
 use Rattle.std.specs.Prelude.{IfSome}
 use Rattle.client_log.specs.LogState.{LogState}
@@ -16,8 +16,7 @@ use Rattle.node_base.specs.declared.peers.Peers.{Peers}
 use Rattle.node_base.specs.Effects.{acts_of}
 use Rattle.node_base.specs.Shape.{is_well_formed}
 use Rattle.cleaner_serving.specs.declared.emptying.Emptying.{Emptying}
-use Rattle.cleaner_serving.specs.EmptyingEvents.{on_clean, on_packet, on_tick}
-use Rattle.cleaner_node.specs.CleanerEvents.{Went_to, crash, after_opening, restart, down_wishes, opening_wishes, serving_wishes, begun_life, wish_at, down_at, opening_at, serving_at, on_begin, cleaner_hear, on_deliver, on_time, happens, phase_has_room, takes}
+use Rattle.cleaner_node.specs.CleanerEvents.{Went_to, crash, after_opening, restart, down_wishes, opening_wishes, begun_life, wish_at, down_at, opening_at, on_begin, cleaner_hear, on_deliver, on_time, happens, phase_has_room, takes}
 use Rattle.cleaner_node.specs.declared.cleaner.Cleaner.{Cleaner as CleanerNode}
 use Rattle.cleaner_node.specs.declared.cleaner.Phase.{Phase}
 use Rattle.cleaner_node.specs.declared.cleaner.Phase.TheVariants.{Down, Opening, Serving as Serves}
@@ -31,19 +30,41 @@ use Rattle.token_protocol.specs.Premises.{Premise}
 use Rattle.wire_msg.specs.declared.packet.Do.{Do}
 use Rattle.wire_msg.specs.declared.packet.Do.TheVariants.{Begin, Deliver, Tick}
 use Rattle.wire_msg.specs.declared.packet.Packet.{Packet}
-use Rattle.xfs_base.proofs.Booleans.{by_test}
 use Rattle.xfs_base.specs.declared.node.NodeId.TheVariants.{Cleaner}
 use Rattle.xfs_base.specs.Steps.{still}
 use Rattle.node_slots.specs.node_tie.CleanerEvents.{CleanerDoes, IsTaken}
-use Rattle.node_slots.specs.node_tie.CleanerLogs.{its_log, AreCopies, ServesCopies, CleanerCopies, ReopensAt, EndsAt, CleanerTold, PacketTold, InTime, OwnGoes, CleanerRuns, after_cleaner}
+use Rattle.node_slots.specs.node_tie.CleanerLogs.{its_log, AreCopies, CleanerCopies, ReopensAt, EndsAt, CleanerTold, PacketTold, InTime, OwnGoes, CleanerRuns, after_cleaner}
 use Rattle.node_slots.specs.node_tie.LogRows.{LogSeen, rows_waiting, told}
 use Rattle.node_slots.specs.node_tie.Sight.{SameLog}
 use Rattle.node_slots.proofs.node_tie.BooksLast.{Lasts, same_log}
-use Rattle.node_slots.proofs.node_tie.CleanerBooks.{books_reopen, copies_grown}
-use Rattle.node_slots.proofs.node_tie.CleanerLogging.{Gone, job_grown, stays}
-use Rattle.node_slots.proofs.node_tie.CleanerServing.{cleaning_wished, packet_heard, time_passes}
+use Rattle.node_slots.proofs.node_tie.CleanerBooks.{books_reopen, books_stay, copies_grown}
+use Rattle.node_slots.proofs.node_tie.CleanerServing.{GoneTo, event_gone, job_grown}
 use Rattle.node_slots.proofs.node_tie.LogTurns.{IsFlown, opened_seen, reopened_rests}
 use Rattle.node_slots.proofs.node_tie.SmallWorld.{neutral_acts, runs_through, says_all}
+
+-- an event is taken, or leaves the cleaner as it was
+taken_or : (peers : Peers) (p : Phase) (what : Do) (Then : Went_to → Type 0)
+    → (IsTaken (record { peers = peers; phase = p }) what → Then (takes peers p what)) → Then (still p) → Then (takes peers p what)
+unfolding on_deliver
+taken_or peers p what Then taken rests = by_room (phase_has_room p) refl what taken
+  where
+    by_formed : (room : phase_has_room p ≡ true) (packet : Packet) (t : Bool) → is_well_formed peers packet ≡ t
+        → (IsTaken (record { peers = peers; phase = p }) (Deliver packet) → Then (takes peers p (Deliver packet)))
+        → Then (takes peers p (Deliver packet))
+    by_formed room packet true formed taken =
+        taken (record { room = room; formed = λ q same. subst (λ (x : Packet). is_well_formed peers x ≡ true) (let e : packet ≡ q = cc in e) formed })
+    by_formed room packet false formed taken =
+        subst (λ t. Then (cond t (on_deliver peers p packet) (still p))) (sym room)
+        (subst (λ t. Then (cond t (cleaner_hear p packet) (still p))) (sym formed) rests)
+
+    by_what : (room : phase_has_room p ≡ true) (what : Do) → (IsTaken (record { peers = peers; phase = p }) what → Then (takes peers p what)) → Then (takes peers p what)
+    by_what room Begin taken = taken (record { room = room; formed = λ q clash. absurd cc })
+    by_what room (Deliver packet) taken = by_formed room packet (is_well_formed peers packet) refl taken
+    by_what room Tick taken = taken (record { room = room; formed = λ q clash. absurd cc })
+
+    by_room : (t : Bool) → phase_has_room p ≡ t → (what : Do) → (IsTaken (record { peers = peers; phase = p }) what → Then (takes peers p what)) → Then (takes peers p what)
+    by_room true room what taken = by_what room what taken
+    by_room false room what taken = subst (λ t. Then (cond t (happens peers p what) (still p))) (sym room) rests
 
 module _ (members part : ℕ) (few : members ≤ its_log) (adopted : Bool) where
   -- it goes on from one phase to another, by changes of the books of its log
@@ -71,23 +92,22 @@ module _ (members part : ℕ) (few : members ≤ its_log) (adopted : Bool) where
       own (Opening x q) = refl
       own (Serves e) = refl
 
-  -- it serves on
-  serving : (k : Books) (e f : Emptying) → Gone members part few k f → Turned k (Serves e) (Serves f)
-  serving k e f h = record {
-    next = h.next;
-    runs = h.goes.runs;
-    others = h.goes.others;
-    own = record { rises = h.goes.lasts.filed its_log; filed = h.goes.lasts.rows its_log; flown = h.goes.flown };
-    copies = h.copies;
+  -- one that serves goes on, or falls
+  serving : (k : Books) (e : Emptying) (p : Phase) (m : Books) → GoneTo members part few k m p → Turned k (Serves e) p
+  serving k e (Down l) m h = to_down k (Serves e) l
+  serving k e (Opening l o) m h = to_opening k (Serves e) l o
+  serving k e (Serves f) m h = record {
+    next = m;
+    runs = h.0.runs;
+    others = h.0.others;
+    own = record { rises = h.0.lasts.filed its_log; filed = h.0.lasts.rows its_log; flown = h.0.flown };
+    copies = h.1;
   }
-
-  on_serving : (k : Books) (e f : Emptying) → ServesCopies k f → Turned k (Serves e) (Serves f)
-  on_serving k e f h = serving k e f (stays members part few k f h)
 
   as_it_was : (k : Books) (p : Phase) → CleanerCopies k p → Turned k p p
   as_it_was k (Down l) h = to_down k (Down l) l
   as_it_was k (Opening l o) h = to_opening k (Opening l o) l o
-  as_it_was k (Serves e) h = on_serving k e e h
+  as_it_was k (Serves e) h = serving k e (Serves e) k (books_stay members part few k, h)
 
   -- ---- the end of an opening
 
@@ -137,68 +157,56 @@ module _ (members part : ℕ) (few : members ≤ its_log) (adopted : Bool) where
   opening_begun k before l o None = to_opening k (Opening before o) l o
   opening_begun k before l o (Some number) = opening_wished k before l o number (wish_at l.items number)
 
-  serving_wished : (k : Books) (before e : Emptying) (number : ℕ) (wish : Wish) → ServesCopies k e
-      → Turned k (Serves before) (serving_wishes e number wish).state
-  unfolding crash
-  serving_wished k before e number Crash h = to_down k (Serves before) _
-  serving_wished k before e number Restart h = on_serving k before e h
-  serving_wished k before e number (Clean count) h =
-      serving k before (on_clean e number count).state (cleaning_wished members part few k e number count h)
+  -- ---- one that doesn't serve
 
-  serving_begun : (k : Books) (before e : Emptying) (item : Option ℕ) → ServesCopies k e → Turned k (Serves before) (serving_at e item).state
-  serving_begun k before e None h = on_serving k before e h
-  serving_begun k before e (Some number) h = serving_wished k before e number (wish_at e.lasting.items number) h
+  abbrev IsAway : Phase → Type 0
+  IsAway (Down l) = Unit {0}
+  IsAway (Opening l o) = Unit {0}
+  IsAway (Serves e) = ⊥
 
-  begins : (k : Books) (servers : ℕ) (p : Phase) → CleanerCopies k p → Turned k p (on_begin servers p).state
+  begins : (k : Books) (servers : ℕ) (p : Phase) → IsAway p → Turned k p (on_begin servers p).state
   unfolding on_begin
-  begins k servers (Down l) h = down_begun k l (begun_life l) servers (next_item l.items)
-  begins k servers (Opening l o) h = opening_begun k l (begun_life l) o (next_item l.items)
-  begins k servers (Serves e) h =
-      serving_begun k e (record e { lasting = begun_life e.lasting }) (next_item e.lasting.items) (record { seen = h.seen; waits = h.waits; job = h.job })
+  begins k servers (Down l) away = down_begun k l (begun_life l) servers (next_item l.items)
+  begins k servers (Opening l o) away = opening_begun k l (begun_life l) o (next_item l.items)
+  begins k servers (Serves e) away = absurd away
 
-  -- ---- packets, and time
-
-  heard : (k : Books) (p : Phase) (packet : Packet) → CleanerCopies k p → PacketTold k adopted p packet → Turned k p (cleaner_hear p packet).state
+  heard : (k : Books) (p : Phase) (packet : Packet) → IsAway p → PacketTold k adopted p packet → Turned k p (cleaner_hear p packet).state
   unfolding cleaner_hear
-  heard k (Down l) packet h owed = to_down k (Down l) l
-  heard k (Opening l o) packet h owed =
+  heard k (Down l) packet away owed = to_down k (Down l) l
+  heard k (Opening l o) packet away owed =
       (let w : Went = opening.opening_take o l.questions packet in ended k l (record l { questions = w.questions }) o w.progress owed)
-  heard k (Serves e) packet h owed = serving k e (on_packet e packet).state (packet_heard members part few k e packet owed h)
+  heard k (Serves e) packet away owed = absurd away
 
-  delivered : (k : Books) (peers : Peers) (p : Phase) (packet : Packet) → CleanerCopies k p
-      → (is_well_formed peers packet ≡ true → PacketTold k adopted p packet) → Turned k p (on_deliver peers p packet).state
-  unfolding on_deliver
-  delivered k peers p packet h owed =
-      by_test (λ (w : Went_to). Turned k p w.state) (is_well_formed peers packet) (cleaner_hear p packet) (still p) (λ t. heard k p packet h (owed t))
-      (λ t. as_it_was k p h)
-
-  ticked : (k : Books) (p : Phase) → CleanerCopies k p → InTime k adopted p → Turned k p (on_time p).state
+  ticked : (k : Books) (p : Phase) → IsAway p → InTime k adopted p → Turned k p (on_time p).state
   unfolding on_time
-  ticked k (Down l) h owed = to_down k (Down l) l
-  ticked k (Opening l o) h owed =
+  ticked k (Down l) away owed = to_down k (Down l) l
+  ticked k (Opening l o) away owed =
       (let w : Went = opening.on_tick o l.questions in ended k l (record l { questions = w.questions }) o w.progress owed)
-  ticked k (Serves e) h owed = serving k e (on_tick e).state (time_passes members part few k e h)
+  ticked k (Serves e) away owed = absurd away
 
-  abbrev Formed : Peers → Do → Type 0
-  Formed peers what = (q : Packet) → what ≡ Deliver q → is_well_formed peers q ≡ true
+  happened : (k : Books) (peers : Peers) (p : Phase) (what : Do) → IsAway p → IsTaken (record { peers = peers; phase = p }) what
+      → CleanerTold k adopted p what → Turned k p (takes peers p what).state
+  unfolding on_deliver
+  happened k peers p Begin away taken owed = subst (λ t. Turned k p (cond t (on_begin peers.servers p) (still p)).state) (sym taken.room) (begins k peers.servers p away)
+  happened k peers p (Deliver packet) away taken owed =
+      subst (λ t. Turned k p (cond t (on_deliver peers p packet) (still p)).state) (sym taken.room)
+      (subst (λ t. Turned k p (cond t (cleaner_hear p packet) (still p)).state) (sym (taken.formed packet refl)) (heard k p packet away owed))
+  happened k peers p Tick away taken owed = subst (λ t. Turned k p (cond t (on_time p) (still p)).state) (sym taken.room) (ticked k p away owed)
 
-  one_packet : (a b : Packet) → Deliver a ≡ Deliver b → a ≡ b
-  one_packet a b same = cc
+  -- ---- any
 
-  happened : (k : Books) (peers : Peers) (p : Phase) (what : Do) → CleanerCopies k p → (Formed peers what → CleanerTold k adopted p what)
-      → Turned k p (happens peers p what).state
-  happened k peers p Begin h owed = begins k peers.servers p h
-  happened k peers p (Deliver packet) h owed =
-      delivered k peers p packet h
-      (λ formed. owed (λ q same. subst (λ (x : Packet). is_well_formed peers x ≡ true) (one_packet packet q same) formed))
-  happened k peers p Tick h owed = ticked k p h (owed (λ q clash. absurd cc))
+  taken_so : (k : Books) (peers : Peers) (p : Phase) (what : Do) → CleanerCopies k p → IsTaken (record { peers = peers; phase = p }) what
+      → CleanerTold k adopted p what → Turned k p (takes peers p what).state
+  taken_so k peers (Serves e) what h taken owed =
+      (let g = event_gone members part few adopted k (record { peers = peers; phase = Serves e }) what e refl owed h in
+      serving k e (takes peers (Serves e) what).state g.next g.at)
+  taken_so k peers (Down l) what h taken owed = happened k peers (Down l) what tt taken owed
+  taken_so k peers (Opening l o) what h taken owed = happened k peers (Opening l o) what tt taken owed
 
-  turned : (k : Books) (cleaner : CleanerNode) (what : Do) → CleanerCopies k cleaner.phase → (IsTaken cleaner what → CleanerTold k adopted cleaner.phase what)
-      → Turned k cleaner.phase (takes cleaner.peers cleaner.phase what).state
-  turned k cleaner what h owed =
-      by_test (λ (w : Went_to). Turned k cleaner.phase w.state) (phase_has_room cleaner.phase) (happens cleaner.peers cleaner.phase what) (still cleaner.phase)
-      (λ room. happened k cleaner.peers cleaner.phase what h (λ formed. owed (record { room = room; formed = formed })))
-      (λ room. as_it_was k cleaner.phase h)
+  turned : (k : Books) (peers : Peers) (p : Phase) (what : Do) → CleanerCopies k p
+      → (IsTaken (record { peers = peers; phase = p }) what → CleanerTold k adopted p what) → Turned k p (takes peers p what).state
+  turned k peers p what h owed =
+      taken_or peers p what (λ w. Turned k p w.state) (λ taken. taken_so k peers p what h taken (owed taken)) (as_it_was k p h)
 
 -- ---- the whole event
 
@@ -215,7 +223,8 @@ pub cleaner_runs : (logs : Bool) (members part : ℕ) (n : Net) → Premise logs
     → All (CleanerDoes part now life) (takes cleaner.peers cleaner.phase what).outs
     → CleanerRuns logs members part n adopted cleaner.phase (takes cleaner.peers cleaner.phase what).state (takes cleaner.peers cleaner.phase what).outs
 cleaner_runs true members part n few adopted cleaner what copies told now life does =
-    let t = turned members part few adopted n.books cleaner what copies told in
+    let t = turned members part few adopted n.books cleaner.peers cleaner.phase what copies
+    (λ taken. told (record { room = taken.room; formed = taken.formed })) in
     record {
       books = t.next;
       runs = done_last true members part n t.next now life (takes cleaner.peers cleaner.phase what).outs does (t.runs n);
