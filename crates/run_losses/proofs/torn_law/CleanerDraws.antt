@@ -49,7 +49,8 @@ use Rattle.node_moves.specs.cleaner_moves.Moves.{OpenedBy, came_to, noted}
 use Rattle.node_moves.specs.cleaner_moves.Moves.OpenedBy.{PacketCame, TimeWent}
 use Rattle.run_losses.proofs.torn_law.ClientFetches.{AllUpTo, UpTo, all_pushed_none, last_up, ReadsUpTo, all_more}
 use Rattle.run_losses.proofs.torn_law.OpeningNumbers.{StageUp, WentUp, packet_up, tick_up}
-use Rattle.run_losses.proofs.torn_law.ClientNumbers.{answer_ask, reads_more}
+use Rattle.run_losses.proofs.missing_law.Readings.{answer_keeps_target}
+use Rattle.run_losses.proofs.torn_law.ClientNumbers.{reads_more}
 
 abbrev last_in : Emptying → ℕ
 last_in e = e.lasting.questions.last
@@ -133,7 +134,7 @@ checked_so hand q block h = by (kept_ask hand block)
 hears_up : (last : ℕ) (hand : Hand) (r : Option ReadingState) (groups : GroupMapState) (ask server : ℕ) (t : Told) → ReadsUpTo last hand.reading
     → ReadsUpTo last r → HandUp last (Some (hears_by hand r groups ask server t).state)
 hears_up last hand None groups ask server t held fact = held
-hears_up last hand (Some r) groups ask server t held fact = (let x = answer_ask r groups ask server t in omega arith)
+hears_up last hand (Some r) groups ask server t held fact = (let x = (answer_keeps_target r groups ask server t).1 in omega arith)
 
 heard_so : (last : ℕ) (hand : Hand) (groups : GroupMapState) (ask server : ℕ) (t : Told) → ReadsUpTo last hand.reading
     → HandUp last (Some (hand_hear hand groups ask server t).state)
