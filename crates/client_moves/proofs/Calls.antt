@@ -1,14 +1,12 @@
 -- What a client that serves does for its open call is made of moves.
-use Rattle.std.proofs.Common.{◌≡◌, ℕ, zero, suc, ◌+◌, ◌==◌, List, [], ◌∷◌, append-nil, Option, Some, None, is_none, refl, sym, subst}
+use Rattle.std.proofs.Common.{◌≡◌, ℕ, zero, suc, ◌+◌, ◌==◌, List, [], ◌∷◌, append-nil, Option, Some, None, refl, sym, subst}
 use Rattle.client_call.specs.declared.call.Call.{Call}
 use Rattle.client_call.specs.Fitting.{put_fits}
-use Rattle.client_log.specs.declared.input.In.{In as LogIn}
-use Rattle.client_log.specs.declared.input.In.TheVariants as log_in
-use Rattle.client_running.specs.Blocks.{Made, blocks_change, blocks_get, blocks_let_go, blocks_make, blocks_need, blocks_put, blocks_put_at, blocks_sync, changed, changes, got, held_back, is_settled, puts_again, wrote}
+use Rattle.client_running.specs.Blocks.{Made, blocks_change, blocks_get, blocks_make, blocks_need, blocks_put, blocks_put_at, blocks_sync, changed, changes, got, held_back, is_settled, puts_again}
 use Rattle.client_running.specs.Running.{Ran, most_steps, ran, run, run_once, run_upto, runs_call}
 use Rattle.client_serving.specs.declared.serving.Serving.{Serving}
 use Rattle.client_serving.specs.Flights.{held_at}
-use Rattle.client_serving.specs.Follow.{note_gone, serving_seal}
+use Rattle.client_serving.specs.Follow.{serving_seal}
 use Rattle.client_serving.specs.Sends.{Done}
 use Rattle.coop_cache.specs.declared.input.In.TheVariants as cache_in
 use Rattle.coop_cache.specs.Transition.{touch}
@@ -19,7 +17,6 @@ use Rattle.node_base.specs.declared.effects.Effect.{Effect}
 use Rattle.node_base.specs.declared.effects.Effect.TheVariants.{Does}
 use Rattle.token_client.specs.declared.input.In.TheVariants as input
 use Rattle.token_client.specs.Held.{may_write}
-use Rattle.token_client.specs.Transition as client
 use Rattle.version_model.specs.declared.act.Act.TheVariants.{Synced}
 use Rattle.xfs_base.proofs.Booleans.{by_test}
 use Rattle.xfs_base.specs.declared.block.BlockId.{BlockId}
@@ -27,10 +24,14 @@ use Rattle.xfs_base.specs.declared.token.Mode.{Mode}
 use Rattle.xfs_base.specs.declared.token.Mode.TheVariants.{Copy, Own}
 use Rattle.xfs_base.specs.Modes.{is_nothing}
 use Rattle.xfs_base.specs.Steps.{saying}
-use Rattle.client_moves.proofs.Following.{MovesStill, MovesTo, hands_move, note_gone_moves, seals_move, writes_move}
+use Rattle.client_moves.proofs.Following.{hands_move, let_go_moves, seals_move, wrote_moves}
+use Rattle.client_moves.proofs.Uncalled.{all_moves}
 use Rattle.client_moves.specs.Moves.{Moves}
-use Rattle.client_moves.specs.Moves.Moves.{Answered, CacheTakes, Rests, Says, Then, TokensTake, Waits}
+use Rattle.client_moves.specs.Moves.Moves.{Answered, CacheTakes, Rests, Says, Then, Waits}
 use Rattle.client_moves.specs.Moves.Said.{HasRead, HasSynced, HasWritten}
+
+abbrev MovesTo : Serving → Done → Type 0
+MovesTo s d = Moves s d.state d.outs
 
 abbrev MakesSo : Serving → Made → Type 0
 MakesSo s m = MovesTo s m.done
@@ -38,7 +39,7 @@ MakesSo s m = MovesTo s m.done
 -- ---- calls on blocks
 
 need_moves : (s : Serving) (block : BlockId) (mode : Mode) → MakesSo s (blocks_need s block mode)
-need_moves s block mode = hands_move s (input.Need block mode) tt
+need_moves s block mode = all_moves (hands_move s (input.Need block mode) tt)
 
 get_moves : (s : Serving) (block : BlockId) → MakesSo s (blocks_get s block)
 unfolding blocks_get
@@ -48,24 +49,13 @@ get_moves s block =
 
 changes_move : (s : Serving) (block : BlockId) (value : Option (List ℕ)) → MakesSo s (changes s block value)
 unfolding changes
-changes_move s block value =
-    let w : Serving = wrote s block value in
-    let t : Serving = record s { tokens = (client.on_wrote s.tokens block value).state } in
-    let i : LogIn = log_in.Put block (record { ver = (held_at w block).ver; hop = 0; place = None }) value in
-    Then (Says s _ (HasWritten block value))
-    (Then (TokensTake s (input.Wrote block value) tt) (Then (CacheTakes t (cache_in.Dirty block)) (writes_move w i)))
-
-let_go_moves : (s : Serving) (block : BlockId) → MovesStill s (blocks_let_go s block)
-let_go_moves s block =
-    let t : Serving = record s { tokens = (client.on_evict s.tokens block).state } in
-    by_test (MovesStill s) (is_none (held_at s block).value) (note_gone t block) s
-    (λ _. Then (TokensTake s (input.Evict block) tt) (note_gone_moves t block)) (λ _. Rests s)
+changes_move s block value = Then (Says s _ (HasWritten block value)) (all_moves (wrote_moves s block value))
 
 change_moves : (s : Serving) (block : BlockId) (value : Option (List ℕ)) → MakesSo s (blocks_change s block value)
 unfolding blocks_change
 change_moves s block value =
     by_test (MakesSo s) (put_fits block ((held_at s block).ver + 1) value) (changes s block value) (held_back s block) (λ _. changes_move s block value)
-    (λ _. let_go_moves s block)
+    (λ _. all_moves (let_go_moves s block))
 
 put_moves : (s : Serving) (block : BlockId) (value : Option (List ℕ)) → MakesSo s (blocks_put s block value)
 unfolding blocks_put
@@ -76,7 +66,7 @@ put_moves s block value =
 puts_again_move : (s : Serving) (block : BlockId) (ver : ℕ) (value : Option (List ℕ)) → MakesSo s (puts_again s block ver value)
 puts_again_move s block ver value =
     by_test (MakesSo s) ((held_at s block).ver == ver) (blocks_change s block value) (changed s block) (λ _. change_moves s block value)
-    (λ _. let_go_moves s block)
+    (λ _. all_moves (let_go_moves s block))
 
 put_at_moves : (s : Serving) (block : BlockId) (ver : ℕ) (value : Option (List ℕ)) → MakesSo s (blocks_put_at s block ver value)
 unfolding blocks_put_at
@@ -88,10 +78,10 @@ sync_moves : (s : Serving) → MakesSo s (blocks_sync s)
 unfolding blocks_sync
 sync_moves s =
     let t : Serving = (serving_seal s).state in
-    Then (seals_move s)
+    Then (all_moves (seals_move s))
     (by_test (λ (outs : List Effect). Moves t t outs) (is_settled t) (Does (Synced t.lasting.number) ∷ []) [] (λ _. Says t _ HasSynced) (λ _. Rests t))
 
-make_moves : (s : Serving) (call : BlockCall) → MakesSo s (blocks_make s call)
+pub make_moves : (s : Serving) (call : BlockCall) → MakesSo s (blocks_make s call)
 unfolding blocks_make
 make_moves s (Get block) = get_moves s block
 make_moves s (Put block value) = put_moves s block value

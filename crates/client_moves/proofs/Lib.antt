@@ -1,4 +1,5 @@
 pub mod Tokens
+pub mod Uncalled
 pub mod Following
 pub mod Calls
 pub mod Packets

@@ -1,5 +1,5 @@
 -- What a client that serves does for a packet, and for time, is made of moves.
-use Rattle.std.proofs.Common.{◌≡◌, ℕ, ◌==◌, ◌&&◌, not, Bool, List, [], ◌∷◌, ◌++◌, append-nil, append_assoc, Option, Some, None, is_none, nat_lt, refl, sym, ap, subst, ◌∙◌}
+use Rattle.std.proofs.Common.{◌≡◌, ℕ, ◌==◌, ◌&&◌, not, Bool, true, List, [], ◌∷◌, ◌++◌, append-nil, append_assoc, Option, Some, None, is_none, nat_lt, refl, sym, ap, subst, ◌∙◌}
 use Rattle.std.specs.List.{AllByRecursion}
 use Rattle.std.specs.Prelude.{flat_map}
 use Rattle.client_call.specs.Reads.{block_read, fetch_again, hear_reading, reading_in, same_target, target_of, value_at}
@@ -53,12 +53,13 @@ use Rattle.xfs_base.specs.declared.news.SlotNews.{SlotNews}
 use Rattle.xfs_base.specs.declared.node.NodeId.{NodeId}
 use Rattle.xfs_base.specs.declared.node.NodeId.TheVariants as node
 use Rattle.xfs_base.specs.Modes.{is_own}
-use Rattle.xfs_base.specs.Steps.{saying, steps, still}
+use Rattle.xfs_base.specs.Steps.{steps, still}
 use Rattle.client_moves.proofs.Calls.{run_moves}
-use Rattle.client_moves.proofs.Following.{MovesStill, MovesTo, all_pushed_said, each_moves, follows_move, hands_move, says_all, take_back_moves, writes_move}
+use Rattle.client_moves.proofs.Following.{MovesStill, MovesTo, SaidSo, all_pushed_said, each_moves, follows_move, hands_move, says_all, take_back_moves, writes_move}
 use Rattle.client_moves.proofs.Tokens.{reads_none}
-use Rattle.client_moves.specs.Moves.{Accepts, Heard, Reads, Said, Tells, Turn, grant_taken, granted, heard, heard_step}
-use Rattle.client_moves.specs.Moves.Moves.{EndsReading, FeedTakes, Promises, Rests, Says, Then, TokensTake}
+use Rattle.client_moves.proofs.Uncalled.{Uncalled, all_moves}
+use Rattle.client_moves.proofs.Uncalled.Uncalled.{EndsReading, FeedTakes, Promises, Rests, Says, Then, TokensTake}
+use Rattle.client_moves.specs.Moves.{Accepts, Heard, Reads, Tells, Turn, grant_taken, granted, heard, heard_step}
 use Rattle.client_moves.specs.Moves.Reads.{Begins, Confirms, NoCall, Unknown}
 use Rattle.client_moves.specs.Moves.Said.{GivesUp, Reports, Supplies}
 use Rattle.client_moves.specs.Moves.Tells.{AbsenceCame, FragmentCame}
@@ -95,14 +96,14 @@ polled_moves s manager p =
     let kept = serving_promise s p.slot p.epoch manager in
     by_test (MovesTo s) (may_report s p) (reports p.slot p.epoch kept) (still s)
     (λ _. Then (promises_move s p.slot p.epoch manager)
-    (Then (Says kept.state (report kept.state p.slot p.epoch) (Reports p.slot p.epoch)) (followed_moves s p.slot p.epoch manager)))
+    (Then (Says kept.state (report kept.state p.slot p.epoch) (Reports p.slot p.epoch) tt) (followed_moves s p.slot p.epoch manager)))
     (λ _. Rests s)
 
 poll_moves : (s : Serving) (from : NodeId) (p : Poll) → MovesTo s (on_poll s from p)
 poll_moves s (node.Manager manager) p = polled_moves s manager p
 poll_moves s _ p = Rests s
 
-hears_move : (s : Serving) (news : SlotNews) → MovesTo s (serving_hear s news)
+pub hears_move : (s : Serving) (news : SlotNews) → MovesTo s (serving_hear s news)
 unfolding serving_hear
 hears_move s news =
     by_test (MovesTo s) (is_news s news) (promised_in s news) (still s)
@@ -114,8 +115,8 @@ regroups_move s newer m =
 
 -- ---- tokens
 
-supplies_said : (s : Serving) (f : Forward) (o : Out) → AllByRecursion (Said s) (send_supply f o)
-supplies_said s f (output.Supply block ver value) = (Supplies f.to _, tt)
+supplies_said : (s : Serving) (f : Forward) (o : Out) → AllByRecursion (SaidSo s) (send_supply f o)
+supplies_said s f (output.Supply block ver value) = ((Supplies f.to _, tt), tt)
 supplies_said s f (output.Want block req again mode) = tt
 supplies_said s f (output.Gave block stamp) = tt
 supplies_said s f (output.Flush block) = tt
@@ -128,11 +129,11 @@ forward_moves s f =
     let taken : client.Done = client.on_forwarded s.tokens f.block f.stamp f.ver in
     let t : Serving = record s { tokens = taken.state } in
     Then (TokensTake s (input.Forwarded f.block f.stamp f.ver) tt)
-    (says_all t (flat_map (send_supply f) taken.outs) (all_flat_map (Said t) (send_supply f) (supplies_said t f) taken.outs))
+    (says_all t (flat_map (send_supply f) taken.outs) (all_flat_map (SaidSo t) (send_supply f) (supplies_said t f) taken.outs))
 
-again_said : (s : Serving) (r : Recall) (outs : List Out) → AllByRecursion (Said s) (again s r outs)
+again_said : (s : Serving) (r : Recall) (outs : List Out) → AllByRecursion (SaidSo s) (again s r outs)
 again_said s r [] = tt
-again_said s r (o ∷ outs) = (GivesUp r.block r.stamp, tt)
+again_said s r (o ∷ outs) = ((GivesUp r.block r.stamp, tt), tt)
 
 recall_moves : (s : Serving) (r : Recall) → MovesTo s (on_recall s r)
 unfolding on_recall
@@ -183,12 +184,34 @@ place_reads t m place =
 
 -- ---- a packet
 
+-- it comes before all else, and more may come
+abbrev pub IsFirst : {what : Do} {s t : Serving} {o : List Effect} → Turn what s t o → Type 0
+IsFirst (Goes turn moves) = ⊥
+IsFirst (FetchesAgain turn) = ⊥
+IsFirst (Refused packet m came meant) = ⊥
+IsFirst _ = Unit {0}
+
+-- what is done for a packet, before the open call runs: a manager refuses its open want, or such a thing comes first
+pub data Taken (what : Do) (s : Serving) : Serving → List Effect → Type 0 where
+  Refuses : (packet : Packet) (m : Gone) → Came what packet (body.Gone m) → is_gone s m ≡ true
+      → Taken what s (loses s m.block m.seg).state (loses s m.block m.seg).outs
+  Once : {t : Serving} {o : List Effect} (turn : Turn what s t o) → IsFirst turn → Taken what s t o
+  Follows : {t u : Serving} {o m : List Effect} (turn : Turn what s t o) → IsFirst turn → Uncalled t u m → Taken what s u (o ++ m)
+
+turn_of : (what : Do) (s t : Serving) (o : List Effect) → Taken what s t o → Turn what s t o
+turn_of what s t o (Refuses packet m came meant) = Refused packet m came meant
+turn_of what s t o (Once turn first) = turn
+turn_of what s t o (Follows turn first moves) = Goes turn (all_moves moves)
+
 module _ (what : Do) (s : Serving) where
-  abbrev pub TurnsTo : Done → Type 0
-  TurnsTo d = Turn what s d.state d.outs
+  abbrev TurnsTo : Done → Type 0
+  TurnsTo d = Taken what s d.state d.outs
+
+  stays : TurnsTo (still s)
+  stays = Once Stays tt
 
   moved : (d : Done) → MovesTo s d → TurnsTo d
-  moved d moves = Goes Stays moves
+  moved d moves = Follows Stays tt moves
 
   module _ (packet : Packet) (event : what ≡ Deliver packet) where
     came : (said : Body) → packet.body ≡ said → Came what packet said
@@ -198,15 +221,15 @@ module _ (what : Do) (s : Serving) where
 
     module _ (m : Grant) (says : packet.body ≡ body.Grant m) (accepted : Accepts s m) where
       ready_turn : TurnsTo (serving_follow (granted s m) (output.Ready m.block ∷ []))
-      ready_turn = Goes (Grants packet m (came (body.Grant m) says) accepted) (follows_move (granted s m) (output.Ready m.block ∷ []) (tt, tt))
+      ready_turn = Follows (Grants packet m (came (body.Grant m) says) accepted) tt (follows_move (granted s m) (output.Ready m.block ∷ []) (tt, tt))
 
       copied_turn : (place : Option Place) → m.entry.place ≡ place → TurnsTo (serving_follow (granted s m) (copy_next m.block place ∷ []))
       unfolding serving_follow follow_one
       copied_turn None lies = ready_turn
       copied_turn (Some place) lies =
-          subst (λ (outs : List Effect). Turn what s (serving_read (granted s m) m.block place).state outs)
+          subst (λ (outs : List Effect). Taken what s (serving_read (granted s m) m.block place).state outs)
           (sym (append-nil (serving_read (granted s m) m.block place).outs))
-          (Shows packet m place (came (body.Grant m) says) accepted lies (place_reads (granted s m) m place))
+          (Once (Shows packet m place (came (body.Grant m) says) accepted lies (place_reads (granted s m) m place)) tt)
 
       granted_turn : TurnsTo (serving_follow (granted s m) (grant_next m.block m.mode m.entry.place ∷ []))
       granted_turn =
@@ -217,16 +240,16 @@ module _ (what : Do) (s : Serving) where
     unfolding on_grant hand client.on_granted serving_follow
     grant_turn m says =
         by_test TurnsTo (is_own m.mode && not (has_long_room m.entry.ver)) (still s) (hand s (input.Granted m.block m.stamp m.inc m.req m.mode m.entry))
-        (λ _. Stays)
+        (λ _. stays)
         (λ _. by_test (λ (d : client.Done). TurnsTo (serving_follow (ends_reading (record s { tokens = d.state })) d.outs))
         (accepts s.tokens m.block m.stamp m.inc m.req m.mode)
         (record { state = grant_taken s m; outs = grant_next m.block m.mode m.entry.place ∷ [] }) (still s.tokens) (λ accepted. granted_turn m says accepted)
-        (λ _. Goes Stays (EndsReading s)))
+        (λ _. Follows Stays tt (EndsReading s)))
 
     gone_turn : (m : Gone) → packet.body ≡ body.Gone m → TurnsTo (on_gone s m)
     unfolding on_gone
     gone_turn m says =
-        by_test TurnsTo (is_gone s m) (loses s m.block m.seg) (still s) (λ meant. Refused packet m (came (body.Gone m) says) meant) (λ _. Stays)
+        by_test TurnsTo (is_gone s m) (loses s m.block m.seg) (still s) (λ meant. Refuses packet m (came (body.Gone m) says) meant) (λ _. stays)
 
     -- ---- a server answers
 
@@ -237,14 +260,14 @@ module _ (what : Do) (s : Serving) where
         ends_turn next.Again fact =
             let u : Serving = heard what s h in
             let r : client.Done = client.transition u.tokens (input.Reask h.at.block) in
-            Goes (HearsShort h fact)
+            Follows (HearsShort h fact) tt
             (follows_move (ends_reading (record u { tokens = r.state })) r.outs (reads_none u.tokens (input.Reask h.at.block) tt))
         ends_turn (next.Read segment) fact =
-            Goes (Hears h (λ again. absurd (let clash : next.Read segment ≡ next.Again = sym fact ∙ again in cc)))
+            Follows (Hears h (λ again. absurd (let clash : next.Read segment ≡ next.Again = sym fact ∙ again in cc))) tt
             (hands_move (heard what s h) (input.Fetched h.at.block (value_at segment h.at.item)) tt)
-        ends_turn next.Wait fact = Hears h (λ again. absurd (let clash : next.Wait ≡ next.Again = sym fact ∙ again in cc))
-        ends_turn next.Ask fact = Hears h (λ again. absurd (let clash : next.Ask ≡ next.Again = sym fact ∙ again in cc))
-        ends_turn next.Lost fact = Hears h (λ again. absurd (let clash : next.Lost ≡ next.Again = sym fact ∙ again in cc))
+        ends_turn next.Wait fact = Once (Hears h (λ again. absurd (let clash : next.Wait ≡ next.Again = sym fact ∙ again in cc))) tt
+        ends_turn next.Ask fact = Once (Hears h (λ again. absurd (let clash : next.Ask ≡ next.Again = sym fact ∙ again in cc))) tt
+        ends_turn next.Lost fact = Once (Hears h (λ again. absurd (let clash : next.Lost ≡ next.Again = sym fact ∙ again in cc))) tt
 
       told_by_turn : (server : ℕ) → packet.from ≡ node.Server server → TurnsTo (told_by s server ask told)
       unfolding told_by
@@ -252,7 +275,7 @@ module _ (what : Do) (s : Serving) where
         where
           known : (was : ReadingState) → reading_in s.call ≡ Some was → (at : BlockAt) → was.target.block ≡ Some at → (groups : Option GroupMapState)
               → TurnsTo (told_at s (Some at) (hear_reading (Some was) groups ask server told))
-          known was read at block None = ReadsOn was read
+          known was read at block None = Once (ReadsOn was read) tt
           known was read at block (Some groups) =
               let h : Heard what s = record {
                 was = was;
@@ -272,16 +295,16 @@ module _ (what : Do) (s : Serving) where
 
           at_block : (was : ReadingState) → reading_in s.call ≡ Some was → (at : Option BlockAt) → was.target.block ≡ at
               → TurnsTo (told_at s at (hear_reading (Some was) s.maps.groups ask server told))
-          at_block was read None block = Stays
+          at_block was read None block = stays
           at_block was read (Some at) block = known was read at block s.maps.groups
 
           by : (o : Option ReadingState) → reading_in s.call ≡ o → TurnsTo (told_at s (block_read o) (hear_reading o s.maps.groups ask server told))
-          by None read = Stays
+          by None read = stays
           by (Some was) read = at_block was read was.target.block refl
 
       told_turn : (from : NodeId) → packet.from ≡ from → TurnsTo (on_told s from ask told)
       told_turn (node.Server server) from = told_by_turn server from
-      told_turn _ from = Stays
+      told_turn _ from = stays
 
     -- ---- maps
 
@@ -291,8 +314,8 @@ module _ (what : Do) (s : Serving) where
         let t : Serving = record s { maps = maps_take s.maps news } in
         let d : Done = steps serving_hear t news.slots in
         by_test TurnsTo (fits s.maps news) (takes_news s news) (still s)
-        (λ _. Goes (Goes (TakesMaps packet news (record { event = event; brings = brings })) (each_moves serving_hear hears_move t news.slots))
-        (regroups_move d.state (is_older s.maps news) news.groups)) (λ _. Stays)
+        (λ _. Follows (TakesMaps packet news (record { event = event; brings = brings })) tt
+        (Then (each_moves serving_hear hears_move t news.slots) (regroups_move d.state (is_older s.maps news) news.groups))) (λ _. stays)
 
     -- ---- all packets
 
@@ -311,21 +334,21 @@ module _ (what : Do) (s : Serving) where
     body_turn (body.Missing m) says = told_turn m.ask _ (AbsenceCame m says) packet.from refl
     body_turn (body.MapNews m) says = news_turn m (ap news_in says)
     body_turn (body.Welcome m) says =
-        by_test TurnsTo (m.inc == s.lasting.inc) (on_news s m.news) (still s) (λ _. news_turn m.news (ap news_in says)) (λ _. Stays)
-    body_turn _ says = Stays
+        by_test TurnsTo (m.inc == s.lasting.inc) (on_news s m.news) (still s) (λ _. news_turn m.news (ap news_in says)) (λ _. stays)
+    body_turn _ says = stays
 
-    taken_turn : TurnsTo (serving_take s packet)
+    pub taken_turn : TurnsTo (serving_take s packet)
     unfolding serving_take
     taken_turn =
         by_test TurnsTo (names_known_groups s.maps packet.body) (take_body s packet.from packet.body) (asks_for_maps s) (λ _. body_turn packet.body refl)
-        (λ _. AsksForMaps packet event)
+        (λ _. Once (AsksForMaps packet event) tt)
 
-    pub packet_turn : TurnsTo (saying (serving_take s packet).outs (run (serving_take s packet).state))
-    packet_turn = Goes taken_turn (run_moves (serving_take s packet).state)
+    pub packet_turn : Turn what s (run (serving_take s packet).state).state ((serving_take s packet).outs ++ (run (serving_take s packet).state).outs)
+    packet_turn = Goes (turn_of what s (serving_take s packet).state (serving_take s packet).outs taken_turn) (run_moves (serving_take s packet).state)
 
   -- ---- time
 
-  time_turn : TurnsTo (on_tick s)
+  time_turn : Turn what s (on_tick s).state (on_tick s).outs
   unfolding on_tick
   time_turn =
       let w : Done = hand s input.Tick in
@@ -333,8 +356,8 @@ module _ (what : Do) (s : Serving) where
       let fetched : List Effect = fetch_again (reading_in w.state.call) in
       let pushed : List Effect = push_all l.state.managers l.state.feed in
       subst (λ (outs : List Effect). Turn what s l.state outs) (append_assoc w.outs fetched (l.outs ++ pushed))
-      (Goes (FetchesAgain (Goes Stays (hands_move s input.Tick tt)))
-      (Then (writes_move w.state log_in.Tick) (says_all l.state pushed (all_pushed_said l.state))))
+      (Goes (FetchesAgain (Goes Stays (all_moves (hands_move s input.Tick tt))))
+      (all_moves (Then (writes_move w.state log_in.Tick) (says_all l.state pushed (all_pushed_said l.state)))))
 
-  pub tick_turn : TurnsTo (saying (on_tick s).outs (run (on_tick s).state))
+  pub tick_turn : Turn what s (run (on_tick s).state).state ((on_tick s).outs ++ (run (on_tick s).state).outs)
   tick_turn = Goes time_turn (run_moves (on_tick s).state)

@@ -1,5 +1,5 @@
 -- What a call on blocks makes of a client that serves is a list of moves.
-use Rattle.std.proofs.Common.{◌≡◌, ℕ, ◌+◌, ◌==◌, cond, Bool, true, false, List, [], ◌∷◌, ◌++◌, Option, Some, None, is_none, refl, sym, ap, ◌∙◌}
+use Rattle.std.proofs.Common.{◌≡◌, ℕ, ◌+◌, ◌==◌, cond, Bool, true, false, List, [], ◌∷◌, ◌++◌, Option, Some, None, refl, sym, ap, ◌∙◌}
 use Rattle.std.proofs.lemmas.Bool.{eqb-true}
 use Rattle.client_call.specs.Blocks.{value_of}
 use Rattle.coop_cache.specs.Transition.{touch}
@@ -8,13 +8,11 @@ use Rattle.file_plan.specs.declared.block_call.BlockAnswer.TheVariants as answer
 use Rattle.node_base.specs.declared.effects.Effect.{Effect}
 use Rattle.xfs_base.specs.declared.token.Mode.{Mode}
 use Rattle.xfs_base.specs.Steps.{saying, still}
-use Rattle.client_log.specs.declared.input.In.{In as LogIn}
-use Rattle.client_log.specs.declared.input.In.TheVariants as log_in
 use Rattle.client_call.specs.Fitting.{put_fits}
 use Rattle.client_running.specs.Blocks.{changed, changes, blocks_change, got, blocks_get, held_back, is_settled, blocks_let_go, blocks_make, blocks_need, put_of, blocks_put, puts_again, blocks_put_at, blocks_sync, wrote}
 use Rattle.client_serving.specs.declared.serving.Serving.{Serving}
-use Rattle.client_serving.specs.Flights.{held_at, serving_write}
-use Rattle.client_serving.specs.Follow.{hand, note_gone, serving_seal}
+use Rattle.client_serving.specs.Flights.{held_at}
+use Rattle.client_serving.specs.Follow.{hand, serving_seal}
 use Rattle.client_serving.specs.Sends.{Done, gives}
 use Rattle.file_plan.specs.declared.block_call.BlockCall.{BlockCall}
 use Rattle.file_plan.specs.declared.block_call.BlockCall.TheVariants.{Get, Put, PutAt, Sync}
@@ -24,15 +22,18 @@ use Rattle.token_client.proofs.Tables.{held_of-put_itself}
 use Rattle.token_client.specs.declared.held.Held.{Held}
 use Rattle.token_client.specs.Held.{may_write, held_write}
 use Rattle.token_client.specs.State.{held_of, with_held}
-use Rattle.token_client.specs.Transition.{on_evict, on_wrote}
+use Rattle.token_client.specs.Transition.{on_wrote}
 use Rattle.version_model.specs.declared.act.Act.TheVariants.{Synced}
 use Rattle.xfs_base.proofs.Booleans.{by_test, contrary}
 use Rattle.xfs_base.specs.declared.block.BlockId.{BlockId}
 use Rattle.xfs_base.specs.declared.token.Mode.TheVariants.{Copy, Own}
 use Rattle.xfs_base.specs.Modes.{is_nothing}
-use Rattle.serving_moves.proofs.client_moves.Following.{hands_go, note_gone_kept, seals_go, writes_go}
-use Rattle.serving_moves.proofs.client_moves.Keeping.{from_goes, itself, same_call, same_lasts, stays}
-use Rattle.serving_moves.specs.client_moves.Moves.{Fits, Kept, MakesSo, Moves, tells}
+use Rattle.client_moves.proofs.Following.{hands_move, let_go_moves, wrote_moves}
+use Rattle.client_moves.proofs.Uncalled.Uncalled.{CacheTakes}
+use Rattle.coop_cache.specs.declared.input.In.TheVariants as cache_in
+use Rattle.serving_moves.proofs.client_moves.Following.{moved, seals_go}
+use Rattle.serving_moves.proofs.client_moves.Keeping.{itself, stays}
+use Rattle.serving_moves.specs.client_moves.Moves.{Fits, MakesSo, Moves, tells}
 use Rattle.headline.specs.Calls.{IsAnswerTo}
 
 -- nothing is answered, or nothing is told by the answer
@@ -54,7 +55,7 @@ told_first s call d a fits moves =
     record { first = still s; firstly = stays s s (itself s); last = d; lastly = moves; all = refl; fits = fits }
 
 needs_go : (s : Serving) (call : BlockCall) (block : BlockId) (mode : Mode) → MakesSo s call (blocks_need s block mode)
-needs_go s call block mode = mute s call (hand s (input.Need block mode)) None refl tt (hands_go s (input.Need block mode))
+needs_go s call block mode = mute s call (hand s (input.Need block mode)) None refl tt (moved (hands_move s (input.Need block mode) tt))
 
 gets_go : (s : Serving) (block : BlockId) → MakesSo s (Get block) (blocks_get s block)
 unfolding blocks_get
@@ -62,30 +63,14 @@ gets_go s block =
     by_test (MakesSo s (Get block)) (is_nothing (held_at s block).mode) (blocks_need s block Copy) (got s block (held_at s block))
     (λ _. needs_go s (Get block) block Copy)
     (λ _. told_first s (Get block) (still (record s { cache = touch s.cache block })) (answer.Got (held_at s block).ver (value_of (held_at s block))) tt
-    (stays s (record s { cache = touch s.cache block }) (record { calls = same_call _; lasts = same_lasts _; number = refl; items = refl })))
-
-wrote_go : (s : Serving) (block : BlockId) (value : Option (List ℕ)) → Moves s (put_of (wrote s block value) block value)
-wrote_go s block value =
-    let w : Serving = wrote s block value in
-    let i : LogIn = log_in.Put block (record { ver = (held_at w block).ver; hop = 0; place = None }) value in
-    from_goes s w (serving_write w i) (record { calls = same_call _; lasts = same_lasts _; number = refl; items = refl }) (writes_go w i)
-
-blocks_let_go_kept : (s : Serving) (block : BlockId) → Kept s (blocks_let_go s block)
-blocks_let_go_kept s block =
-    let t : Serving = record s { tokens = (on_evict s.tokens block).state } in
-    let k : Kept t (note_gone t block) = note_gone_kept t block in
-    by_test (Kept s) (is_none (held_at s block).value) (note_gone t block) s
-    (λ _. record { calls = k.calls; lasts = k.lasts; number = k.number; items = k.items }) (λ _. itself s)
-
-let_go : (s : Serving) (block : BlockId) → Moves s (gives (blocks_let_go s block) [])
-let_go s block = stays s (blocks_let_go s block) (blocks_let_go_kept s block)
+    (moved (CacheTakes s (cache_in.Touch block))))
 
 put_go : (s : Serving) (block : BlockId) (value : Option (List ℕ)) → MakesSo s (Put block value) (blocks_change s block value)
 unfolding blocks_change changes
 put_go s block value =
     by_test (MakesSo s (Put block value)) (put_fits block ((held_at s block).ver + 1) value) (changes s block value) (held_back s block)
     (λ _. told_first s (Put block value) (put_of (wrote s block value) block value) (answer.Put (held_at (wrote s block value) block).ver) tt
-    (wrote_go s block value)) (λ _. mute s (Put block value) (gives (blocks_let_go s block) []) None refl tt (let_go s block))
+    (moved (wrote_moves s block value))) (λ _. mute s (Put block value) (gives (blocks_let_go s block) []) None refl tt (moved (let_go_moves s block)))
 
 -- what may be written has its next version then
 wrote_next : (s : Serving) (block : BlockId) (value : Option (List ℕ)) → may_write (held_at s block) ≡ true
@@ -103,7 +88,7 @@ put_at_go s block ver value may same =
     by_test (MakesSo s (PutAt block ver value)) (put_fits block ((held_at s block).ver + 1) value) (changes s block value) (held_back s block)
     (λ _. told_first s (PutAt block ver value) (put_of (wrote s block value) block value) (answer.Put (held_at (wrote s block value) block).ver)
     (wrote_next s block value may ∙ ap (λ n. n + 1) same)
-    (wrote_go s block value)) (λ _. mute s (PutAt block ver value) (gives (blocks_let_go s block) []) None refl tt (let_go s block))
+    (moved (wrote_moves s block value))) (λ _. mute s (PutAt block ver value) (gives (blocks_let_go s block) []) None refl tt (moved (let_go_moves s block)))
 
 puts_go : (s : Serving) (block : BlockId) (value : Option (List ℕ)) → MakesSo s (Put block value) (blocks_put s block value)
 unfolding blocks_put
@@ -116,7 +101,7 @@ puts_again_go : (s : Serving) (block : BlockId) (ver : ℕ) (value : Option (Lis
 puts_again_go s block ver value may =
     by_test (MakesSo s (PutAt block ver value)) ((held_at s block).ver == ver) (blocks_change s block value) (changed s block)
     (λ same. put_at_go s block ver value may (eqb-true (held_at s block).ver ver same))
-    (λ _. mute s (PutAt block ver value) (gives (blocks_let_go s block) []) (Some answer.Changed) refl tt (let_go s block))
+    (λ _. mute s (PutAt block ver value) (gives (blocks_let_go s block) []) (Some answer.Changed) refl tt (moved (let_go_moves s block)))
 
 blocks_put_at_go : (s : Serving) (block : BlockId) (ver : ℕ) (value : Option (List ℕ)) → MakesSo s (PutAt block ver value) (blocks_put_at s block ver value)
 unfolding blocks_put_at

@@ -1,20 +1,20 @@
 -- Moves of a client that serves, one behind another.
-use Rattle.std.proofs.Common.{ℕ, List, [], ◌∷◌, append-nil, append_assoc, Option, None, refl, sym, subst, ◌∙◌}
-use Rattle.std.specs.Prelude.{fold}
+use Rattle.std.proofs.Common.{◌≡◌, List, append_assoc, Option, None, refl, sym, ap, subst, ◌∙◌}
 use Rattle.client_call.specs.declared.call.Call.{Call}
+use Rattle.client_serving.specs.declared.lasting.Lasting.{Lasting}
 use Rattle.client_serving.specs.declared.serving.Serving.{Serving}
 use Rattle.client_serving.specs.Reads.{loses}
 use Rattle.client_serving.specs.Sends.{Done, gives}
 use Rattle.node_base.specs.declared.effects.Effect.{Effect}
 use Rattle.xfs_base.specs.declared.block.BlockId.{BlockId}
 use Rattle.xfs_base.specs.declared.segment.SegName.{SegName}
-use Rattle.xfs_base.specs.Steps.{saying, steps, still}
+use Rattle.xfs_base.specs.Steps.{saying, still}
 use Rattle.delta_feed.specs.declared.output.Out.{Out as RangeOut}
 use Rattle.delta_feed.specs.declared.output.Out.TheVariants.{Range}
 use Rattle.delta_feed.specs.FeedState.{FeedState}
-use Rattle.delta_feed.specs.Transition.{feed_push, feed_tick}
+use Rattle.delta_feed.specs.Transition.{feed_tick}
 use Rattle.log_owner.specs.declared.promised.Managers.{Managers}
-use Rattle.log_owner.specs.Sending.{sending_push, push_all, range}
+use Rattle.log_owner.specs.Sending.{push_all, range}
 use Rattle.node_base.specs.declared.effects.Effect.TheVariants.{Send, Answer as Answers, Lose, Does}
 use Rattle.version_model.specs.declared.act.Act.{Act}
 use Rattle.version_model.specs.declared.act.Act.TheVariants as act
@@ -48,6 +48,15 @@ lasts_then a b c x y call fact = (let v = x call fact in y v.0 v.1)
 pub itself : (s : Serving) → Kept s s
 itself s = record { calls = same_call s.call; lasts = same_lasts s.call; number = refl; items = refl }
 
+-- where its call and what lasts are the same, all is
+pub same_kept : (s t : Serving) → t.call ≡ s.call → t.lasting ≡ s.lasting → Kept s t
+same_kept s t call lasting = record {
+  calls = subst (CallStays s.call) (sym call) (same_call s.call);
+  lasts = subst (CallLasts s.call) (sym call) (same_lasts s.call);
+  number = ap (λ (l : Lasting). l.number) lasting;
+  items = ap (λ (l : Lasting). l.items) lasting;
+}
+
 pub then_kept : (s t u : Serving) → Kept s t → Kept t u → Kept s u
 then_kept s t u a b = record {
   calls = call_then s.call t.call u.call a.calls b.calls;
@@ -71,11 +80,8 @@ still_plain (Does a) still = filed_silent a still
 pub all_still_plain : (outs : List Effect) → AllStill outs → AllPlain Answering outs
 all_still_plain outs all = all_weaker IsStill (IsPlain Answering) still_plain outs all
 
-range_still : (managers : Managers) (x : RangeOut) → IsStill (range managers x)
+pub range_still : (managers : Managers) (x : RangeOut) → IsStill (range managers x)
 range_still managers (Range slot first upto rows) = tt
-
-pub pushed_still : (managers : Managers) (feed : FeedState) (slot : ℕ) → AllStill (sending_push managers feed slot)
-pushed_still managers feed slot = all_map IsStill (range managers) (range_still managers) (feed_push feed slot)
 
 pub all_pushed_still : (managers : Managers) (feed : FeedState) → AllStill (push_all managers feed)
 all_pushed_still managers feed = all_map IsStill (range managers) (range_still managers) (feed_tick feed)
@@ -104,16 +110,3 @@ first_goes s outs x plain a = then_goes s (gives s outs) x (plainly s (gives s o
 -- from one that is as it was
 pub from_goes : (s t : Serving) (d : Done) → Kept s t → Moves t d → Moves s d
 from_goes s t d k g = then_goes s (still t) d (stays s t k) g
-
-pub steps_go : {A : Type 0} (step : Serving → A → Done) → ((s : Serving) (x : A) → Moves s (step s x)) → (s : Serving) (xs : List A) → Moves s (steps step s xs)
-steps_go step each s [] = stays s s (itself s)
-steps_go step each s (x ∷ xs) =
-    then_goes s (step s x) (steps step (step s x).state xs) (each s x) (steps_go step each (step s x).state xs)
-
-pub fold_kept : {A : Type 0} (f : Serving → A → Serving) → ((s : Serving) (x : A) → Kept s (f s x)) → (s : Serving) (xs : List A) → Kept s (fold f s xs)
-fold_kept f each s [] = itself s
-fold_kept f each s (x ∷ xs) = then_kept s (f s x) (fold f (f s x) xs) (each s x) (fold_kept f each (f s x) xs)
-
--- it then is another that is as it was
-pub left_at : (s : Serving) (d : Done) (t : Serving) → Moves s d → Kept d.state t → Moves s (gives t d.outs)
-left_at s d t a k = subst (λ (outs : List Effect). Moves s (gives t outs)) (append-nil d.outs) (then_goes s d (still t) a (stays d.state t k))
