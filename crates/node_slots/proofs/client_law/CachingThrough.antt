@@ -23,7 +23,8 @@ use Rattle.node_slots.proofs.client_law.Arriving.{IsFresh, KeptOrFresh}
 use Rattle.node_slots.proofs.client_law.Asking.{asks_always}
 use Rattle.node_slots.proofs.client_law.Caching.{C}
 use Rattle.node_slots.proofs.client_law.CachingSteps.{all_written, caches_just_what_is_clean, is_exact, keeps-caching, none, only_clean, what_is_clean}
-use Rattle.node_slots.proofs.client_law.Calls.{running_go_on-same, running_go_on-sound, run_upto-both, run_upto-fresh}
+use Rattle.node_slots.proofs.client_law.Calls.{running_go_on-same, run_upto-both, run_upto-fresh}
+use Rattle.node_slots.proofs.client_law.Sounding.{running_go_on-sound}
 use Rattle.node_slots.proofs.client_law.Happening.{AnyBlock, AnyMap, arrives_any, brings_any}
 use Rattle.node_slots.proofs.client_law.Keeping.{At, Sound}
 use Rattle.node_slots.proofs.client_law.Packets.{serving_take-keeps, on_tick-keeps}
@@ -72,7 +73,7 @@ module _ (s : Serving) (asks : AsksForCall s) (p : At (C none) s) where
   begun lasting going calls =
       let t : Serving = record s { lasting = lasting } in
       runs_exact calls (running_go_on t going).state
-      (running_go_on-sound AnyBlock AnyMap (C none) (λ n. C none) (λ block. C (λ b. b ≡ block)) keeps-caching t going asks.sound)
+      (running_go_on-sound t going asks.sound)
       (running_go_on-same AnyBlock AnyMap (C none) (λ n. C none) (λ block. C (λ b. b ≡ block)) keeps-caching t going p)
 
   through : CachesThroughAnEvent s

@@ -1,12 +1,12 @@
 -- The open call runs: that keeps a fact of a client that serves; and it writes at once, or lets go, what was just granted to be written.
 use Rattle.std.proofs.Common.{◌≡◌, inl, inr, ℕ, zero, suc, ◌+◌, ◌<◌, Bool, true, false, ◌==◌, List, Option, Some, None, is_some, is_none, refl, sym, ap, subst, ◌∙◌, arith}
-use Rattle.client_log.specs.declared.input.In.TheVariants as log_in
 use Rattle.client_call.specs.Calls.{plan_answered}
 use Rattle.client_call.specs.declared.call.Call.{Call}
 use Rattle.client_call.specs.declared.call.Going.TheVariants.{On, Ends}
 use Rattle.client_call.specs.declared.call.Going.{Going}
 use Rattle.client_call.specs.Fitting.{put_fits}
-use Rattle.client_running.specs.Blocks.{Made, changed, changes, blocks_change, got, blocks_get, held_back, blocks_let_go, blocks_make, blocks_need, blocks_put, puts_again, blocks_put_at, blocks_sync, wrote}
+use Rattle.client_moves.proofs.Calls.{make_moves}
+use Rattle.client_running.specs.Blocks.{Made, changed, changes, blocks_change, got, blocks_get, held_back, blocks_let_go, blocks_make, blocks_need, blocks_put, puts_again, blocks_put_at, blocks_sync}
 use Rattle.client_serving.specs.declared.serving.Serving.{Serving}
 use Rattle.client_serving.specs.Flights.{held_at}
 use Rattle.client_serving.specs.Follow.{hand, note_gone}
@@ -17,7 +17,6 @@ use Rattle.file_plan.specs.declared.block_call.BlockCall.{BlockCall}
 use Rattle.file_plan.specs.declared.block_call.BlockCall.TheVariants.{Get, Put, PutAt, Sync}
 use Rattle.group_map.specs.GroupMapState.{GroupMapState}
 use Rattle.token_client.specs.declared.held.Held.{Held}
-use Rattle.token_client.specs.declared.input.In.TheVariants as input
 use Rattle.token_client.specs.Held.{is_dirty, let_go, may_evict, may_write}
 use Rattle.token_client.specs.State.{held_of, with_held}
 use Rattle.token_client.specs.Transition.{Done, on_evict, on_need}
@@ -33,7 +32,7 @@ use Rattle.node_slots.specs.node_tie.Asks.{needed, needed_by}
 use Rattle.node_slots.proofs.client_law.Arriving.{IsFresh, KeptOrFresh}
 use Rattle.node_slots.proofs.client_law.Keeping.{At, Fact, Keeps, Sound, TakesKeep, note_gone-keeps, quiet-keeps, serving_seal-keeps}
 use Rattle.node_slots.proofs.client_law.Quiet.{on_need-quiet}
-use Rattle.node_slots.proofs.client_law.Sounding.{hand-sound, note_gone-sound, serving_seal-sound, transition-sound, serving_write-sound}
+use Rattle.node_slots.proofs.client_law.Sounding.{running_go_on-sound, sound_by}
 
 -- ---- a block without a value is let go
 
@@ -61,57 +60,6 @@ module _ (P : Fact) (k : TakesKeep P) (s : Serving) (block : BlockId) (p : At P 
 
   blocks_let_go-keeps : At P (blocks_let_go s block)
   blocks_let_go-keeps = by_test (At P) (is_none now.value) (note_gone (record s { tokens = (on_evict s.tokens block).state }) block) s (λ x. evicted-keeps) (λ x. p)
-
--- ---- soundness
-
-module _ (s : Serving) (p : Sound s) (block : BlockId) where
-  blocks_need-sound : (mode : Mode) → Sound (blocks_need s block mode).done.state
-  blocks_need-sound mode = hand-sound s (input.Need block mode) p
-
-  blocks_get-sound : Sound (blocks_get s block).done.state
-  unfolding blocks_get
-  blocks_get-sound = by_test (λ (m : Made). Sound m.done.state) (is_nothing (held_at s block).mode) (blocks_need s block Copy) (got s block (held_at s block))
-      (λ x. blocks_need-sound Copy) (λ x. p)
-
-  module _ (value : Option (List ℕ)) where
-    changes-sound : Sound (changes s block value).done.state
-    unfolding changes
-    changes-sound =
-        let w : Serving = wrote s block value in
-        serving_write-sound w (log_in.Put block (record { ver = (held_at w block).ver; hop = 0; place = None }) value)
-        (transition-sound s.tokens (input.Wrote block value) p)
-
-    blocks_let_go-sound : Sound (blocks_let_go s block)
-    blocks_let_go-sound =
-        by_test Sound (is_none (held_at s block).value) (note_gone (record s { tokens = (on_evict s.tokens block).state }) block) s
-        (λ x. note_gone-sound (record s { tokens = (on_evict s.tokens block).state }) block (transition-sound s.tokens (input.Evict block) p)) (λ x. p)
-
-    blocks_change-sound : Sound (blocks_change s block value).done.state
-    unfolding blocks_change
-    blocks_change-sound =
-        by_test (λ (m : Made). Sound m.done.state) (put_fits block ((held_at s block).ver + 1) value) (changes s block value) (held_back s block)
-        (λ x. changes-sound) (λ x. blocks_let_go-sound)
-
-    blocks_put-sound : Sound (blocks_put s block value).done.state
-    unfolding blocks_put
-    blocks_put-sound =
-        by_test (λ (m : Made). Sound m.done.state) (may_write (held_at s block)) (blocks_change s block value) (blocks_need s block Own)
-        (λ x. blocks_change-sound) (λ x. blocks_need-sound Own)
-
-    blocks_put_at-sound : (ver : ℕ) → Sound (blocks_put_at s block ver value).done.state
-    unfolding blocks_put_at
-    blocks_put_at-sound ver =
-        by_test (λ (m : Made). Sound m.done.state) (may_write (held_at s block)) (puts_again s block ver value) (blocks_need s block Own)
-        (λ x. by_test (λ (m : Made). Sound m.done.state) ((held_at s block).ver == ver) (blocks_change s block value) (changed s block)
-        (λ y. blocks_change-sound) (λ y. blocks_let_go-sound))
-        (λ x. blocks_need-sound Own)
-
-blocks_make-sound : (s : Serving) (b : BlockCall) → Sound s → Sound (blocks_make s b).done.state
-unfolding blocks_make blocks_sync
-blocks_make-sound s (Get block) p = blocks_get-sound s p block
-blocks_make-sound s (Put block value) p = blocks_put-sound s p block value
-blocks_make-sound s (PutAt block ver value) p = blocks_put_at-sound s p block value ver
-blocks_make-sound s Sync p = serving_seal-sound s p
 
 -- ---- the fact
 
@@ -222,11 +170,6 @@ module _ (A : BlockId → Type 0) (M : GroupMapState → Type 0) (B : Fact) (P :
   running_go_on-same s (On call) p = p
   running_go_on-same s (Ends answer) p = p
 
-  pub running_go_on-sound : (s : Serving) (g : Going) → Sound s → Sound (running_go_on s g).state
-  unfolding running_go_on
-  running_go_on-sound s (On call) p = p
-  running_go_on-sound s (Ends answer) p = p
-
   take_answer-both : (s : Serving) (call : Call) (a : Option BlockAnswer) → Both s → Both (take_answer s call a).done.state
   take_answer-both s call None p = record { sound = p.sound; fact = p.fact }
   take_answer-both s call (Some answer) p =
@@ -237,7 +180,7 @@ module _ (A : BlockId → Type 0) (M : GroupMapState → Type 0) (B : Fact) (P :
   runs_call-both s (Some call) p =
       let u : Serving = record s { call = None } in
       let m : Made = blocks_make u call.step in
-      take_answer-both m.done.state call m.answer (record { sound = blocks_make-sound u call.step p.sound; fact = blocks_make-keeps u call.step p.sound p.fact })
+      take_answer-both m.done.state call m.answer (record { sound = sound_by (make_moves u call.step) p.sound; fact = blocks_make-keeps u call.step p.sound p.fact })
 
   run_once-both : (s : Serving) → Both s → Both (run_once s).done.state
   unfolding run_once
@@ -250,7 +193,7 @@ module _ (A : BlockId → Type 0) (M : GroupMapState → Type 0) (B : Fact) (P :
       let u : Serving = record s { call = None } in
       let m : Made = blocks_make u call.step in
       take_answer-both m.done.state call m.answer
-      (record { sound = blocks_make-sound u call.step sound; fact = fresh-blocks_make u f.block call.step (premise ∙ f.needs) sound f.may f.empty f.fact })
+      (record { sound = sound_by (make_moves u call.step) sound; fact = fresh-blocks_make u f.block call.step (premise ∙ f.needs) sound f.may f.empty f.fact })
 
   run_once-fresh : (s : Serving) → Sound s → IsFresh Q s → Both (run_once s).done.state
   unfolding run_once

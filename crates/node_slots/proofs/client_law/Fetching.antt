@@ -7,8 +7,7 @@ use Rattle.client_node.specs.declared.phase.Phase.{Phase}
 use Rattle.client_node.specs.Phases.{takes}
 use Rattle.client_node.specs.Starting.{client_start}
 use Rattle.client_serving.specs.declared.serving.Serving.{Serving}
-use Rattle.client_serving.specs.Flights.{held_at, serving_settle, serving_write}
-use Rattle.client_serving.specs.Sends as client
+use Rattle.client_serving.specs.Flights.{held_at}
 use Rattle.token_client.specs.declared.held.Held.{Held}
 use Rattle.token_client.specs.Held.{let_go, may_end_fetch, version_settled, held_write}
 use Rattle.token_client.specs.State.{TokensState, held_of, with_held}
@@ -19,7 +18,6 @@ use Rattle.wire_msg.specs.declared.packet.Do.TheVariants.{Begin, Deliver, Tick}
 use Rattle.xfs_base.specs.Blocks.{same_block}
 use Rattle.xfs_base.specs.declared.block.BlockId.{BlockId}
 use Rattle.xfs_base.specs.Modes.{is_held}
-use Rattle.xfs_base.specs.Steps.{still}
 use Rattle.xfs_base.proofs.BlockOrder.{same_block_exact, same_block_itself}
 use Rattle.xfs_base.proofs.Booleans.{and_second, contrary}
 use Rattle.node_slots.specs.node_tie.AskingEvents.{PhaseAsks}

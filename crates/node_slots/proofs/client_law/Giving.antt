@@ -40,11 +40,13 @@ use Rattle.xfs_base.specs.Steps.{saying, steps, still}
 use Rattle.xfs_base.proofs.BlockOrder.{block_cmp_exact}
 use Rattle.xfs_base.proofs.Booleans.{and_first, and_second, by_test, contrary, or_first}
 use Rattle.xfs_base.proofs.Members.{contains_cases, contains_first, contains_nothing, contains_rest}
+use Rattle.client_moves.proofs.Following.{give_if_clean_moves, rows_settle, settles_move}
+use Rattle.node_slots.proofs.node_tie.AsksInputs.{transition-sound}
 use Rattle.node_slots.specs.client_law.Giving.{GivesOnlyDirty, PutsOffWhatIsDirty}
 use Rattle.node_slots.proofs.client_law.Happening.{AnyBlock, AnyMap, OpensSo, Reopens, after_weaker, always, Starts}
 use Rattle.node_slots.proofs.client_law.Keeping.{At, Fact, IsCopied, Keeps, Sound, TakesKeep, serving_follow-silent, take_back-keeps, told}
 use Rattle.node_slots.proofs.client_law.Quiet.{IsQuiet, refetch-quiet}
-use Rattle.node_slots.proofs.client_law.Sounding.{give_if_clean-sound, settle_rows-sound, serving_settle-sound, transition-sound}
+use Rattle.node_slots.proofs.client_law.Sounding.{sound_still}
 use Rattle.node_slots.proofs.client_law.Writing.{note_clean-tokens, note_gone-tokens, serving_write-tokens}
 
 -- a put-off recall is of a dirty block, or of one of these
@@ -274,7 +276,7 @@ nothing-left t p b some = none_left (p b some)
 
 all-done : (s : Serving) (xs : List BlockId) → Sound s → GivesBut (Contains xs) s.tokens → GivesBut (λ b. ⊥) (steps give_if_clean s xs).state.tokens
 all-done s [] sound p = nothing-left s.tokens p
-all-done s (x ∷ xs) sound p = all-done (give_if_clean s x).state xs (give_if_clean-sound s x sound) (give_if_clean-done x xs s sound p)
+all-done s (x ∷ xs) sound p = all-done (give_if_clean s x).state xs (sound_still (give_if_clean_moves s x) sound) (give_if_clean-done x xs s sound p)
 
 abbrev OnlyDirty : TokensState → Type 0
 OnlyDirty t = GivesBut (λ b. ⊥) t
@@ -289,7 +291,7 @@ serving_settle-gives s end rows sound p =
     let dirty : List BlockId = dirty_in s.tokens.blocks in
     let before : GivesAmong dirty s.tokens = λ b some. dirty-among s.tokens.blocks b (dirty_only _ (p b some)) in
     let among : GivesAmong dirty (settle_rows s rows).tokens = clean-among dirty (fold notes_settled s rows) rows (rows-among dirty s rows before) in
-    all-done (feeds (settle_rows s rows) end rows) dirty (settle_rows-sound s rows sound) (λ b some. inr (among b some))
+    all-done (feeds (settle_rows s rows) end rows) dirty (sound_still (rows_settle s rows) sound) (λ b some. inr (among b some))
 
 -- ---- all that a client does
 
@@ -303,7 +305,7 @@ record SoundGiving (t : TokensState) : Type 0 where
 
 logs-give : (s : Serving) (i : log_in.In) → Sound s → OnlyDirty s.tokens → OnlyDirty (serving_write s i).state.tokens
 logs-give s i sound p =
-    (serving_write-tokens SoundGiving (λ u end rows q. record { sound = serving_settle-sound u end rows q.sound; only = serving_settle-gives u end rows q.sound q.only }) s i
+    (serving_write-tokens SoundGiving (λ u end rows q. record { sound = sound_still (settles_move u end rows) q.sound; only = serving_settle-gives u end rows q.sound q.only }) s i
     (record { sound = sound; only = p })).only
 
 -- a block of which none is put off

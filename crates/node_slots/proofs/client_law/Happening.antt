@@ -54,7 +54,8 @@ use Rattle.node_slots.proofs.node_tie.AsksPackets.{serving_take-asks, on_tick-as
 use Rattle.node_slots.specs.client_law.Maps.{BringsMaps, DoBrings}
 use Rattle.node_slots.specs.client_law.Events.{HoldsAfterAnyEvents, WhereItServes, after_events}
 use Rattle.node_slots.proofs.client_law.Arriving.{KeptOrFresh}
-use Rattle.node_slots.proofs.client_law.Calls.{running_go_on-same, running_go_on-sound, run-keeps}
+use Rattle.node_slots.proofs.client_law.Calls.{running_go_on-same, run-keeps}
+use Rattle.node_slots.proofs.client_law.Sounding.{running_go_on-sound}
 use Rattle.node_slots.proofs.client_law.Keeping.{At, Fact, Keeps, Sound}
 use Rattle.node_slots.proofs.client_law.Packets.{Arrives, serving_take-keeps, on_tick-keeps}
 
@@ -100,7 +101,7 @@ module _ (A : BlockId → Type 0) (M : GroupMapState → Type 0) (B : Fact) (P :
   begin_call-so s number (Some going) sound h =
       let t : Serving = record s { lasting = record s.lasting { items = items_wait s.lasting.items number } } in
       let d : client.Done = running_go_on t going in
-      end (run d.state).state (run-keeps A M B P Q k d.state (running_go_on-sound A M B P Q k t going sound) (inl (running_go_on-same A M B P Q k t going h)))
+      end (run d.state).state (run-keeps A M B P Q k d.state (running_go_on-sound t going sound) (inl (running_go_on-same A M B P Q k t going h)))
 
   opens-so : (s : Serving) (number : ℕ) → Sound s → At (P 0) s → At B (opens s number).state
   unfolding opens

@@ -2,6 +2,8 @@
 use Rattle.std.proofs.Common.{◌≡◌, inl, ℕ, Bool, true, ◌&&◌, ◌==◌, not, nat_lt, List, [], ◌∷◌, Option, Some, None, refl, sym, ap, subst, ◌∙◌, arith}
 use Rattle.std.proofs.lemmas.Bool.Decides.{nat_tests}
 use Rattle.client_log.specs.declared.input.In.TheVariants as log_in
+use Rattle.client_moves.proofs.Following.{hands_move}
+use Rattle.client_moves.proofs.Packets.{hears_move}
 use Rattle.client_call.specs.Reads.{block_read, hear_reading, Heard, reading_in, value_at}
 use Rattle.client_serving.specs.declared.serving.Serving.{Serving}
 use Rattle.client_serving.specs.Flights.{held_at, serving_write}
@@ -55,7 +57,7 @@ use Rattle.node_slots.specs.client_law.Maps.{BringsMaps}
 use Rattle.node_slots.proofs.client_law.Arriving.{KeptOrFresh, fetched-keeps, granted-keeps, lessens, loses-keeps, supplied-keeps}
 use Rattle.node_slots.proofs.client_law.Keeping.{At, Fact, Keeps, Sound, quiet-keeps, take_back-keeps, told}
 use Rattle.node_slots.proofs.client_law.Quiet.{GoesQuietly, on_forwarded-quiet, on_promise-quiet, on_reask-quiet, on_tick-quiet}
-use Rattle.node_slots.proofs.client_law.Sounding.{serving_follow-sound, hand-sound, transition-sound}
+use Rattle.node_slots.proofs.client_law.Sounding.{sound_still}
 
 -- ---- a recall that stands at the block's stamp
 
@@ -110,16 +112,6 @@ module _ (A : BlockId → Type 0) (M : GroupMapState → Type 0) (B : Fact) (P :
       (on_promise s.tokens slot epoch) (on_promise-quiet s.tokens slot epoch) p)
       (λ x. hushed (record s { managers = managers_set s.managers slot manager }) (on_promise s.tokens slot epoch) (on_promise-quiet s.tokens slot epoch) p)
 
-  promises-sound : (s : Serving) (slot epoch manager : ℕ) → Sound s
-      → Sound (told (record (serving_renew s slot epoch) { managers = managers_set (serving_renew s slot epoch).managers slot manager })
-      (on_promise (serving_renew s slot epoch).tokens slot epoch)).state
-  unfolding serving_renew
-  promises-sound s slot epoch manager p =
-      by_test (λ (t : Serving). Sound (told (record t { managers = managers_set t.managers slot manager }) (on_promise t.tokens slot epoch)).state)
-      (nat_lt (epoch_of s.tokens.epochs slot) epoch) (record s { feed = new_epoch s.feed slot }) s
-      (λ x. serving_follow-sound _ (on_promise s.tokens slot epoch).outs (transition-sound s.tokens (tokens.Promise slot epoch) p))
-      (λ x. serving_follow-sound _ (on_promise s.tokens slot epoch).outs (transition-sound s.tokens (tokens.Promise slot epoch) p))
-
   polled-keeps : (s : Serving) (manager : ℕ) (m : Poll) → At (P 1) s → At (P 1) (polled s manager m).state
   unfolding polled serving_promise
   polled-keeps s manager m p =
@@ -132,10 +124,12 @@ module _ (A : BlockId → Type 0) (M : GroupMapState → Type 0) (B : Fact) (P :
 
   serving_hear-keeps : (s : Serving) (news : SlotNews) → Both 1 s → Both 1 (serving_hear s news).state
   unfolding serving_hear serving_promise
-  serving_hear-keeps s news p =
-      by_test (λ (d : client.Done). Both 1 d.state) (is_news s news) (promised_in s news) (still s)
-      (λ x. record { sound = promises-sound s news.slot news.epoch news.manager p.sound; fact = promises-keeps s news.slot news.epoch news.manager p.fact })
-      (λ x. p)
+  serving_hear-keeps s news p = record {
+    sound = sound_still (hears_move s news) p.sound;
+    fact =
+        by_test (λ (d : client.Done). At (P 1) d.state) (is_news s news) (promised_in s news) (still s)
+        (λ x. promises-keeps s news.slot news.epoch news.manager p.fact) (λ x. p.fact);
+  }
 
   all_heard : (s : Serving) (news : List SlotNews) → Both 1 s → Both 1 (steps serving_hear s news).state
   all_heard s [] p = p
@@ -170,7 +164,7 @@ module _ (A : BlockId → Type 0) (M : GroupMapState → Type 0) (B : Fact) (P :
   unfolding on_tick hand
   on_tick-keeps s asks p =
       let t : Serving = (hand s tokens.Tick).state in
-      k.logs t log_in.Tick tt (hand-sound s tokens.Tick asks.sound) (hushed s (tokens_tick s.tokens) (on_tick-quiet s.tokens) p)
+      k.logs t log_in.Tick tt (sound_still (hands_move s tokens.Tick tt) asks.sound) (hushed s (tokens_tick s.tokens) (on_tick-quiet s.tokens) p)
 
   -- ---- packets
 

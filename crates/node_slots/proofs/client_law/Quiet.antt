@@ -15,7 +15,7 @@ use Rattle.xfs_base.proofs.Alls.{all_append}
 use Rattle.token_client.specs.declared.held.Held.{Held}
 use Rattle.token_client.specs.declared.held.Wanted.{Wanted}
 use Rattle.token_client.specs.declared.output.Out.{Out}
-use Rattle.token_client.specs.declared.output.Out.TheVariants.{Want, Gave, Supply, Flush, Read, Ready}
+use Rattle.token_client.specs.declared.output.Out.TheVariants.{Want, Flush, Read, Ready}
 use Rattle.token_client.specs.Held.{held_ask, asked_again, is_asking, must_ask, drop_promised, quit, unfetched}
 use Rattle.token_client.specs.State.{TokensState, held_of, is_in_slot, with_held}
 use Rattle.token_client.specs.Transition.{Done, tokens_ask, ask_again, ask_copy, drop_in, fetched_blocks, is_spent, may_promise, on_forwarded, on_need, on_promise, on_quit, on_reask, on_tick, raised, refetch, repeated, serves, supplies, wanted_blocks}

@@ -3,8 +3,7 @@ use Rattle.std.proofs.Common.{◌≡◌, false, refl, ap, subst, ◌∙◌}
 use Rattle.client_node.specs.declared.client.Client.{Client}
 use Rattle.client_node.specs.declared.phase.Phase.TheVariants.{Serving as Serves}
 use Rattle.client_node.specs.Starting.{client_start}
-use Rattle.client_serving.specs.Flights.{held_at, serving_settle, serving_write}
-use Rattle.client_serving.specs.Sends as client
+use Rattle.client_serving.specs.Flights.{held_at}
 use Rattle.token_client.specs.declared.held.Held.{Held}
 use Rattle.token_client.specs.Held.{let_go, version_settled, held_write}
 use Rattle.token_client.specs.State.{TokensState, held_of, with_held}

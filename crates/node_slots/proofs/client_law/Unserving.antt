@@ -19,7 +19,7 @@ use Rattle.log_owner.proofs.Behaving as behaving
 use Rattle.node_base.specs.Asking.{draw, next_ask}
 use Rattle.node_base.specs.Beginning.{next_item, work_at}
 use Rattle.node_base.specs.declared.effects.Effect.{Effect}
-use Rattle.node_base.specs.declared.effects.Effect.TheVariants.{Send, Answer, Lose, Does}
+use Rattle.node_base.specs.declared.effects.Effect.TheVariants.{Send}
 use Rattle.node_base.specs.declared.questions.Questions.{Questions}
 use Rattle.node_base.specs.Known.{names_known_groups}
 use Rattle.node_base.specs.Shape.{is_well_formed}

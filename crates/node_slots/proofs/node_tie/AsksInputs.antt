@@ -52,7 +52,7 @@ pub tokens_start-asks : (n : Need) (inc : ℕ) (epochs : List ℕ) → AsksAs n 
 tokens_start-asks n inc epochs = record { sound = tokens_start-sound inc epochs; suits = λ b. held_new-suits n b }
 
 -- each input keeps the tokens sound
-transition-sound : (s : TokensState) (i : In) → IsSound s → IsSound (transition s i).state
+pub transition-sound : (s : TokensState) (i : In) → IsSound s → IsSound (transition s i).state
 transition-sound s i sound = (transition-follows (λ b. Unit {0}) s sound i (λ b h. tt)).sound
 
 module _ (n : Need) (s : TokensState) (a : AsksAs n s) where
