@@ -1,18 +1,15 @@
 -- What the open call of a client answers, and what that stands on.
-use Rattle.std.proofs.Common.{◌≡◌, ℕ, zero, suc, ◌+◌, ◌==◌, cond, Bool, true, false, List, [], ◌∷◌, ◌++◌, append-nil, append_assoc, Option, Some, None, is_some, inl, refl, sym, ap, subst, ◌∙◌}
+use Rattle.std.proofs.Common.{◌≡◌, ℕ, zero, suc, ◌+◌, List, [], ◌∷◌, ◌++◌, append-nil, append_assoc, Option, Some, None, is_some, inl, refl, sym, ap, subst, ◌∙◌}
 use Rattle.client_call.specs.Calls.{plan_answered, answer_of, call_of, stands_by, going_by, may_make}
 use Rattle.client_call.specs.declared.call.Call.{Call}
 use Rattle.client_call.specs.declared.call.Going.{Going}
 use Rattle.client_call.specs.declared.call.Going.TheVariants.{On, Ends}
 use Rattle.client_call.specs.declared.call.Plan.{Plan}
 use Rattle.client_call.specs.declared.call.Plan.TheVariants.{One, File}
-use Rattle.client_call.specs.Fitting.{put_fits}
-use Rattle.client_running.specs.Blocks.{Made, changed, changes, blocks_change, got, blocks_get, held_back, is_settled, blocks_make, blocks_need, blocks_put, puts_again, blocks_put_at, synced_acts, synced_answer, blocks_sync}
+use Rattle.client_running.specs.Blocks.{Made, blocks_make}
 use Rattle.client_running.specs.Opens.{begin_call, call_at, opens}
 use Rattle.client_running.specs.Running.{Ran, take_answer, running_go_on, most_steps, run, runs_call, run_once, run_upto}
 use Rattle.client_serving.specs.declared.serving.Serving.{Serving}
-use Rattle.client_serving.specs.Flights.{held_at}
-use Rattle.client_serving.specs.Follow.{serving_seal}
 use Rattle.client_serving.specs.Sends.{Done, gives}
 use Rattle.file_plan.specs.declared.block_call.BlockAnswer.{BlockAnswer}
 use Rattle.file_plan.specs.declared.block_call.BlockAnswer.TheVariants.{Got, Changed, Synced}
@@ -27,7 +24,6 @@ use Rattle.node_base.specs.Beginning.{items_wait, work_at}
 use Rattle.node_base.specs.declared.effects.Effect.{Effect}
 use Rattle.node_base.specs.declared.effects.Effect.TheVariants.{Answer as Answers, Does}
 use Rattle.node_base.specs.Effects.{acts_of}
-use Rattle.token_client.specs.Held.{may_write}
 use Rattle.token_protocol.specs.Basics.{In}
 use Rattle.version_model.specs.declared.act.Act.{Act}
 use Rattle.version_model.specs.declared.act.Act.TheVariants as act
@@ -40,11 +36,12 @@ use Rattle.xfs_base.proofs.Booleans.{by_test}
 use Rattle.xfs_base.specs.declared.block.BlockId.{BlockId}
 use Rattle.xfs_base.specs.declared.node.NodeId.{NodeId}
 use Rattle.xfs_base.specs.declared.node.NodeId.TheVariants as nodes
-use Rattle.xfs_base.specs.Modes.{is_nothing}
 use Rattle.xfs_base.specs.Steps.{saying, still}
 use Rattle.serving_moves.proofs.item_moves.Plans.{EndsWell, IsFileReply, all_well, replies_well, start_well}
-use Rattle.serving_moves.proofs.item_moves.ClientServing.{Goes, IsOpen, items_of, items_stay, makes_go, seals_go}
+use Rattle.serving_moves.proofs.item_moves.ClientServing.{Goes, IsOpen, items_of, items_stay, makes_go}
 use Rattle.serving_moves.proofs.item_moves.Keeping.{no_item, one_number}
+use Rattle.serving_moves.proofs.client_moves.Blocks as blocks
+use Rattle.serving_moves.specs.client_moves.Moves.{Fits, MakesSo, tells}
 use Rattle.serving_moves.specs.item_moves.Moves.{IsNone}
 use Rattle.serving_moves.specs.item_moves.Moves.Losses.{Answering}
 use Rattle.run_answers.proofs.act_law.Foundations.{Its, ItsOf, its_grow}
@@ -89,62 +86,21 @@ ActedFor client (PutAt block named value) outs (Some Changed) = Unit {0}
 ActedFor client Sync outs (Some Synced) = In (Does (act.Synced client)) outs
 ActedFor client _ outs (Some _) = ⊥
 
-abbrev pub MadeFor : ℕ → BlockCall → Made → Type 0
-MadeFor client step m = ActedFor client step m.done.outs m.answer
+acted_so : (client : ℕ) (step : BlockCall) (a : Option BlockAnswer) (before behind : List Effect) → Fits step a
+    → ActedFor client step (before ++ (tells client step a ++ behind)) a
+acted_so client step None before behind fits = tt
+acted_so client (Get block) (Some (Got ver value)) before behind fits = effect_behind (Does (act.Read client block ver value)) before _ (inl refl)
+acted_so client (Put block value) (Some (Written ver)) before behind fits = effect_behind (Does (act.Wrote client block value)) before _ (inl refl)
+acted_so client (PutAt block named value) (Some (Written ver)) before behind fits = effect_behind (Does (act.Wrote client block value)) before _ (inl refl)
+acted_so client (PutAt block named value) (Some Changed) before behind fits = tt
+acted_so client Sync (Some Synced) before behind fits = effect_behind (Does (act.Synced client)) before _ (inl refl)
+acted_so client _ (Some _) before behind fits = absurd fits
 
-gets_acted : (s : Serving) (block : BlockId) → MadeFor s.lasting.number (Get block) (blocks_get s block)
-unfolding blocks_get
-gets_acted s block =
-    by_test (MadeFor s.lasting.number (Get block)) (is_nothing (held_at s block).mode) (blocks_need s block _) (got s block (held_at s block)) (λ _. tt)
-    (λ _. inl refl)
-
-changes_acted : (s : Serving) (block : BlockId) (value : Option (List ℕ)) → MadeFor s.lasting.number (Put block value) (blocks_change s block value)
-unfolding blocks_change changes
-changes_acted s block value =
-    by_test (MadeFor s.lasting.number (Put block value)) (put_fits block ((held_at s block).ver + 1) value) (changes s block value) (held_back s block)
-    (λ _. inl refl) (λ _. tt)
-
-puts_acted : (s : Serving) (block : BlockId) (value : Option (List ℕ)) → MadeFor s.lasting.number (Put block value) (blocks_put s block value)
-unfolding blocks_put
-puts_acted s block value =
-    by_test (MadeFor s.lasting.number (Put block value)) (may_write (held_at s block)) (blocks_change s block value) (blocks_need s block _)
-    (λ _. changes_acted s block value) (λ _. tt)
-
-named_acted : (s : Serving) (block : BlockId) (ver : ℕ) (value : Option (List ℕ))
-    → MadeFor s.lasting.number (PutAt block ver value) (blocks_change s block value)
-unfolding blocks_change changes
-named_acted s block ver value =
-    by_test (MadeFor s.lasting.number (PutAt block ver value)) (put_fits block ((held_at s block).ver + 1) value) (changes s block value)
-    (held_back s block) (λ _. inl refl) (λ _. tt)
-
-again_acted : (s : Serving) (block : BlockId) (ver : ℕ) (value : Option (List ℕ)) → MadeFor s.lasting.number (PutAt block ver value) (puts_again s block ver value)
-again_acted s block ver value =
-    by_test (MadeFor s.lasting.number (PutAt block ver value)) ((held_at s block).ver == ver) (blocks_change s block value) (changed s block)
-    (λ _. named_acted s block ver value) (λ _. tt)
-
-blocks_put_at_acted : (s : Serving) (block : BlockId) (ver : ℕ) (value : Option (List ℕ)) → MadeFor s.lasting.number (PutAt block ver value) (blocks_put_at s block ver value)
-unfolding blocks_put_at
-blocks_put_at_acted s block ver value =
-    by_test (MadeFor s.lasting.number (PutAt block ver value)) (may_write (held_at s block)) (puts_again s block ver value) (blocks_need s block _)
-    (λ _. again_acted s block ver value) (λ _. tt)
-
-syncs_acted : (s : Serving) → MadeFor s.lasting.number Sync (blocks_sync s)
-unfolding blocks_sync
-syncs_acted s =
-    let d : Done = serving_seal s in
-    subst (λ n. ActedFor n Sync (d.outs ++ synced_acts d.state) (synced_answer d.state)) (seals_go s).does.its_number (by (is_settled d.state))
-  where
-    by : (t : Bool)
-        → ActedFor (serving_seal s).state.lasting.number Sync ((serving_seal s).outs ++ cond t (Does (act.Synced (serving_seal s).state.lasting.number) ∷ []) []) (cond t (Some Synced) None)
-    by true = effect_behind (Does (act.Synced (serving_seal s).state.lasting.number)) (serving_seal s).outs _ (inl refl)
-    by false = tt
-
-pub makes_acted : (s : Serving) (step : BlockCall) → MadeFor s.lasting.number step (blocks_make s step)
-unfolding blocks_make
-makes_acted s (Get block) = gets_acted s block
-makes_acted s (Put block value) = puts_acted s block value
-makes_acted s (PutAt block ver value) = blocks_put_at_acted s block ver value
-makes_acted s Sync = syncs_acted s
+pub makes_acted : (s : Serving) (step : BlockCall) → ActedFor s.lasting.number step (blocks_make s step).done.outs (blocks_make s step).answer
+makes_acted s step =
+    let m : MakesSo s step (blocks_make s step) = blocks.makes_go s step in
+    subst (λ (d : Done). ActedFor s.lasting.number step d.outs (blocks_make s step).answer) (sym m.all)
+    (acted_so s.lasting.number step (blocks_make s step).answer m.first.outs m.last.outs m.fits)
 
 -- what its acts say of its answer
 answer_acted : (client : ℕ) (step : BlockCall) (a : BlockAnswer) (outs : List Effect) → ActedFor client step outs (Some a)
