@@ -1,2 +1,2 @@
-pub mod client_moves
+pub mod call_moves
 pub mod item_moves

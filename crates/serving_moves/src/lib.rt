@@ -3,5 +3,5 @@
 //! answers, is shown of each of them, and of every event at once. It has no code of the product: its functions have empty bodies, and their contracts are laws.
 #![tactic(auto)]
 
-pub mod client_moves;
+pub mod call_moves;
 pub mod item_moves;

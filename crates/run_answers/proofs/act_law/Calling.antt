@@ -40,8 +40,8 @@ use Rattle.xfs_base.specs.Steps.{saying, still}
 use Rattle.serving_moves.proofs.item_moves.Plans.{EndsWell, IsFileReply, all_well, replies_well, start_well}
 use Rattle.serving_moves.proofs.item_moves.ClientServing.{Goes, IsOpen, items_of, items_stay, makes_go}
 use Rattle.serving_moves.proofs.item_moves.Keeping.{no_item, one_number}
-use Rattle.serving_moves.proofs.client_moves.Blocks as blocks
-use Rattle.serving_moves.specs.client_moves.Moves.{Fits, MakesSo, tells}
+use Rattle.serving_moves.proofs.call_moves.Blocks as blocks
+use Rattle.serving_moves.specs.call_moves.Moves.{Fits, MakesSo, tells}
 use Rattle.serving_moves.specs.item_moves.Moves.{IsNone}
 use Rattle.serving_moves.specs.item_moves.Moves.Losses.{Answering}
 use Rattle.run_answers.proofs.act_law.Foundations.{Its, ItsOf, its_grow}

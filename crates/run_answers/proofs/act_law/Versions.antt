@@ -32,7 +32,7 @@ use Rattle.version_model.specs.declared.work.Work.TheVariants as work
 use Rattle.xfs_base.proofs.Booleans.{by_test}
 use Rattle.xfs_base.specs.declared.node.NodeId.TheVariants as nodes
 use Rattle.xfs_base.specs.Steps.{saying, still}
-use Rattle.serving_moves.specs.client_moves.Moves.{CallStays}
+use Rattle.serving_moves.specs.call_moves.Moves.{CallStays}
 use Rattle.serving_moves.proofs.item_moves.Plans.{IsFileReply, answered_well, replies_well}
 use Rattle.serving_moves.proofs.item_moves.ClientServing.{Goes, IsOpen, items_of, items_stay, makes_go}
 use Rattle.serving_moves.specs.item_moves.Moves.{IsNone}

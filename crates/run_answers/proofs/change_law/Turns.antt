@@ -23,10 +23,10 @@ use Rattle.node_base.specs.Beginning.{items_begin, next_item, items_wait, work_a
 use Rattle.node_base.specs.declared.effects.Effect.TheVariants.{Answer as Answers}
 use Rattle.node_base.specs.declared.items.Items.{Items}
 use Rattle.node_base.specs.Shape.{is_well_formed}
-use Rattle.serving_moves.proofs.client_moves.Arriving.{packet_goes, tick_goes}
+use Rattle.serving_moves.proofs.call_moves.Arriving.{packet_goes, tick_goes}
 use Rattle.serving_moves.proofs.item_moves.Keeping.{no_item}
-use Rattle.serving_moves.specs.client_moves.Moves.{Comes}
-use Rattle.serving_moves.specs.client_moves.Moves.Comes.{Moved}
+use Rattle.serving_moves.specs.call_moves.Moves.{Comes}
+use Rattle.serving_moves.specs.call_moves.Moves.Comes.{Moved}
 use Rattle.token_client.specs.declared.held.Held.{Held}
 use Rattle.token_client.specs.State.{dirty_in}
 use Rattle.version_model.specs.declared.act.Act.{Act}

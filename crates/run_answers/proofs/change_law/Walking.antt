@@ -15,7 +15,7 @@ use Rattle.file_plan.specs.declared.block_call.BlockCall.{BlockCall}
 use Rattle.file_plan.specs.declared.block_call.BlockCall.TheVariants.{Get, Put, PutAt, Sync}
 use Rattle.node_base.specs.declared.effects.Effect.{Effect}
 use Rattle.node_base.specs.declared.items.Items.{Items}
-use Rattle.serving_moves.specs.client_moves.Moves.{Fits}
+use Rattle.serving_moves.specs.call_moves.Moves.{Fits}
 use Rattle.token_client.specs.declared.held.Held.{Held}
 use Rattle.version_model.specs.declared.act.Act.{Act}
 use Rattle.version_model.specs.declared.answer.Answer.{Answer}

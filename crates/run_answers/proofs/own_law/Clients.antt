@@ -30,10 +30,10 @@ use Rattle.node_base.specs.declared.effects.Effect.{Effect}
 use Rattle.node_base.specs.declared.effects.Effect.TheVariants.{Send, Answer as Answers, Lose, Does}
 use Rattle.node_base.specs.declared.items.Items.{Items}
 use Rattle.node_base.specs.Shape.{is_well_formed}
-use Rattle.serving_moves.proofs.client_moves.Arriving.{packet_goes, tick_goes}
-use Rattle.serving_moves.proofs.client_moves.Keeping.{all_pushed_still}
-use Rattle.serving_moves.specs.client_moves.Moves.{Comes}
-use Rattle.serving_moves.specs.client_moves.Moves.Comes.{Moved}
+use Rattle.serving_moves.proofs.call_moves.Arriving.{packet_goes, tick_goes}
+use Rattle.serving_moves.proofs.call_moves.Keeping.{all_pushed_still}
+use Rattle.serving_moves.specs.call_moves.Moves.{Comes}
+use Rattle.serving_moves.specs.call_moves.Moves.Comes.{Moved}
 use Rattle.version_model.specs.declared.act.Act.{Act}
 use Rattle.version_model.specs.declared.act.Act.TheVariants as act
 use Rattle.version_model.specs.declared.answer.Answer.{Answer}

@@ -11,7 +11,7 @@ use Rattle.node_base.specs.Beginning.{answers_unanswered}
 use Rattle.node_base.specs.declared.effects.Effect.{Effect}
 use Rattle.node_base.specs.declared.effects.Effect.TheVariants.{Send, Answer as Answers, Lose, Does}
 use Rattle.node_base.specs.Effects.{act_of, acts_of}
-use Rattle.serving_moves.specs.client_moves.Moves.{AllStill, IsFiled, tells}
+use Rattle.serving_moves.specs.call_moves.Moves.{AllStill, IsFiled, tells}
 use Rattle.headline.specs.Calls.{answered_so, is_of_items, of_items, told}
 use Rattle.version_model.specs.declared.act.Act.{Act}
 use Rattle.version_model.specs.declared.act.Act.TheVariants as act

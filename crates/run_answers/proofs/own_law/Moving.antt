@@ -10,13 +10,13 @@ use Rattle.file_plan.specs.declared.block_call.BlockCall.{BlockCall}
 use Rattle.node_base.specs.Beginning.{items_answer}
 use Rattle.node_base.specs.declared.effects.Effect.{Effect}
 use Rattle.node_base.specs.declared.items.Items.{Items}
-use Rattle.serving_moves.proofs.client_moves.Blocks.{makes_go}
-use Rattle.serving_moves.proofs.client_moves.Keeping.{then_kept}
-use Rattle.serving_moves.specs.client_moves.Moves.{AllStill, Comes, Fits, Kept, MakesSo, Moves, tells}
+use Rattle.serving_moves.proofs.call_moves.Blocks.{makes_go}
+use Rattle.serving_moves.proofs.call_moves.Keeping.{then_kept}
+use Rattle.serving_moves.specs.call_moves.Moves.{AllStill, Comes, Fits, Kept, MakesSo, Moves, tells}
 use Rattle.headline.specs.Calls.{answered_so, told}
-use Rattle.serving_moves.specs.client_moves.Moves.Comes.{Moved, Gone}
-use Rattle.serving_moves.specs.client_moves.Moves.Move.{Steps, Loses}
-use Rattle.serving_moves.specs.client_moves.Moves.Moves.{Last, Then}
+use Rattle.serving_moves.specs.call_moves.Moves.Comes.{Moved, Gone}
+use Rattle.serving_moves.specs.call_moves.Moves.Move.{Steps, Loses}
+use Rattle.serving_moves.specs.call_moves.Moves.Moves.{Last, Then}
 use Rattle.version_model.specs.declared.act.Act.{Act}
 use Rattle.version_model.specs.declared.answer.Answer.TheVariants as answer
 use Rattle.xfs_base.proofs.Alls.{all_append}
@@ -24,7 +24,7 @@ use Rattle.xfs_base.specs.declared.block.BlockId.{BlockId}
 use Rattle.xfs_base.specs.declared.node.NodeId.{NodeId}
 use Rattle.xfs_base.specs.declared.segment.SegName.{SegName}
 use Rattle.xfs_base.specs.Steps.{saying}
-use Rattle.serving_moves.specs.client_moves.Moves.{IsStill}
+use Rattle.serving_moves.specs.call_moves.Moves.{IsStill}
 use Rattle.run_answers.proofs.own_law.Filing.{answered_are, before_still, behind_still, its_acts, told_are}
 
 no_call : (call : Call) → None ≡ Some call → ⊥

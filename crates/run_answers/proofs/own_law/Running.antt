@@ -20,7 +20,7 @@ use Rattle.node_base.specs.Beginning.{items_answer}
 use Rattle.node_base.specs.declared.effects.Effect.{Effect}
 use Rattle.node_base.specs.declared.effects.Effect.TheVariants.{Does}
 use Rattle.node_base.specs.declared.items.Items.{Items}
-use Rattle.serving_moves.specs.client_moves.Moves.{Fits}
+use Rattle.serving_moves.specs.call_moves.Moves.{Fits}
 use Rattle.headline.specs.Calls.{EventStretch, IsAnswerTo, IsHeldSince, told}
 use Rattle.version_model.specs.declared.act.Act.{Act}
 use Rattle.version_model.specs.declared.act.Act.TheVariants as act

@@ -12,7 +12,7 @@ use Rattle.client_serving.specs.Sends.{Done}
 use Rattle.file_plan.specs.declared.block_call.BlockAnswer.{BlockAnswer}
 use Rattle.file_plan.specs.declared.block_call.BlockCall.{BlockCall}
 use Rattle.node_base.specs.declared.effects.Effect.{Effect}
-use Rattle.serving_moves.specs.client_moves.Moves.{Fits}
+use Rattle.serving_moves.specs.call_moves.Moves.{Fits}
 use Rattle.version_model.specs.declared.act.Act.{Act}
 use Rattle.xfs_base.specs.declared.node.NodeId.{NodeId}
 use Rattle.xfs_base.specs.declared.node.NodeId.TheVariants as nodes

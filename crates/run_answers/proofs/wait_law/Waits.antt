@@ -26,9 +26,9 @@ use Rattle.node_slots.proofs.node_tie.AsksEvents.{first_asks, phase_asks}
 use Rattle.node_slots.specs.client_law.Events.{WhereItServes, after_events}
 use Rattle.node_slots.specs.client_law.Giving.{GivesOnlyDirty, PutsOffWhatIsDirty}
 use Rattle.node_slots.specs.node_tie.AskingEvents.{PhaseAsks}
-use Rattle.serving_moves.proofs.client_moves.Arriving.{packet_goes, tick_goes}
-use Rattle.serving_moves.specs.client_moves.Moves.{Comes}
-use Rattle.serving_moves.specs.client_moves.Moves.Comes.{Moved}
+use Rattle.serving_moves.proofs.call_moves.Arriving.{packet_goes, tick_goes}
+use Rattle.serving_moves.specs.call_moves.Moves.{Comes}
+use Rattle.serving_moves.specs.call_moves.Moves.Comes.{Moved}
 use Rattle.version_model.specs.declared.act.Act.{Act}
 use Rattle.version_model.specs.declared.answer.Answer.TheVariants as answer
 use Rattle.version_model.specs.declared.work.Work.{Work}

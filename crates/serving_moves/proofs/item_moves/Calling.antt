@@ -22,7 +22,7 @@ use Rattle.version_model.specs.declared.work.Work.{Work}
 use Rattle.serving_moves.proofs.item_moves.ClientServing.{Goes, items_of, makes_go, number_of}
 use Rattle.serving_moves.proofs.item_moves.Keeping as moving
 use Rattle.serving_moves.proofs.item_moves.Keeping.{moves_of, plainly, same, then_goes}
-use Rattle.serving_moves.specs.client_moves.Moves.{CallStays}
+use Rattle.serving_moves.specs.call_moves.Moves.{CallStays}
 use Rattle.serving_moves.specs.item_moves.Moves.{IsNone, IsPrompt, ItemsStay}
 use Rattle.serving_moves.specs.item_moves.Moves.Begun.{AtOnce, Waits}
 use Rattle.serving_moves.specs.item_moves.Moves.Losses.{Answering}

@@ -19,15 +19,15 @@ use Rattle.xfs_base.specs.declared.block.BlockId.{BlockId}
 use Rattle.xfs_base.specs.declared.segment.SegName.{SegName}
 use Rattle.xfs_base.specs.Steps.{saying}
 use Rattle.node_base.specs.declared.items.Items.{Items}
-use Rattle.serving_moves.proofs.client_moves.Arriving as arriving
-use Rattle.serving_moves.proofs.client_moves.Blocks as blocks
-use Rattle.serving_moves.proofs.client_moves.Following as following
-use Rattle.serving_moves.proofs.client_moves.Keeping.{all_still_plain, call_then, itself, no_call}
-use Rattle.serving_moves.proofs.client_moves.Reading.{of_moves}
+use Rattle.serving_moves.proofs.call_moves.Arriving as arriving
+use Rattle.serving_moves.proofs.call_moves.Blocks as blocks
+use Rattle.serving_moves.proofs.call_moves.Following as following
+use Rattle.serving_moves.proofs.call_moves.Keeping.{all_still_plain, call_then, itself, no_call}
+use Rattle.serving_moves.proofs.call_moves.Reading.{of_moves}
 use Rattle.serving_moves.proofs.item_moves.Keeping as moving
 use Rattle.serving_moves.proofs.item_moves.Keeping.{moves_stay, plainly, then_goes}
-use Rattle.serving_moves.specs.client_moves.Moves.{AllStill, CallStays, Comes, Kept, MakesSo, Moves, tells}
-use Rattle.serving_moves.specs.client_moves.Moves.Comes.{Moved, Gone}
+use Rattle.serving_moves.specs.call_moves.Moves.{AllStill, CallStays, Comes, Kept, MakesSo, Moves, tells}
+use Rattle.serving_moves.specs.call_moves.Moves.Comes.{Moved, Gone}
 use Rattle.serving_moves.specs.item_moves.Moves.{AllPlain, IsNone, ItemsStay}
 use Rattle.serving_moves.specs.item_moves.Moves.Losses.{Answering}
 use Rattle.serving_moves.specs.item_moves.Moves.Move.{Loses}

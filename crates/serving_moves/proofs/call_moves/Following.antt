@@ -26,8 +26,8 @@ use Rattle.segment_reading.specs.declared.target.Target.{Target}
 use Rattle.segment_reading.specs.Reading.{ReadingState, on_confirmed, reading_start, reading_unanswered}
 use Rattle.xfs_base.proofs.Alls.{all_map}
 use Rattle.xfs_base.specs.declared.segment.SegName.{SegName}
-use Rattle.serving_moves.proofs.client_moves.Keeping.{from_goes, itself, lost, plainly, range_still, same_call, same_kept, same_lasts, stays, then_goes, then_kept}
-use Rattle.serving_moves.specs.client_moves.Moves.{AllStill, CallLasts, CallStays, HasCall, IsStill, Kept, Moves}
+use Rattle.serving_moves.proofs.call_moves.Keeping.{from_goes, itself, lost, plainly, range_still, same_call, same_kept, same_lasts, stays, then_goes, then_kept}
+use Rattle.serving_moves.specs.call_moves.Moves.{AllStill, CallLasts, CallStays, HasCall, IsStill, Kept, Moves}
 
 -- ---- the reading of the open call
 

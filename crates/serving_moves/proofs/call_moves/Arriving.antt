@@ -21,11 +21,11 @@ use Rattle.token_client.specs.State.{TokensState}
 use Rattle.wire_msg.specs.declared.packet.Do.{Do}
 use Rattle.wire_msg.specs.declared.packet.Do.TheVariants.{Deliver}
 use Rattle.wire_msg.specs.declared.packet.Packet.{Packet}
-use Rattle.serving_moves.proofs.client_moves.Following as following
-use Rattle.serving_moves.proofs.client_moves.Following.{ends_kept, fetches_plain, reading_kept, reads_go}
-use Rattle.serving_moves.proofs.client_moves.Keeping.{all_pushed_still, first_goes, from_goes, itself, plainly, same_call, same_kept, same_lasts, stays, then_goes, then_kept}
-use Rattle.serving_moves.specs.client_moves.Moves.{AllStill, Comes, Kept, Moves}
-use Rattle.serving_moves.specs.client_moves.Moves.Comes.{Moved, Gone}
+use Rattle.serving_moves.proofs.call_moves.Following as following
+use Rattle.serving_moves.proofs.call_moves.Following.{ends_kept, fetches_plain, reading_kept, reads_go}
+use Rattle.serving_moves.proofs.call_moves.Keeping.{all_pushed_still, first_goes, from_goes, itself, plainly, same_call, same_kept, same_lasts, stays, then_goes, then_kept}
+use Rattle.serving_moves.specs.call_moves.Moves.{AllStill, Comes, Kept, Moves}
+use Rattle.serving_moves.specs.call_moves.Moves.Comes.{Moved, Gone}
 
 -- ---- a packet
 

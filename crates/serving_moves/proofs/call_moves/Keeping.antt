@@ -19,9 +19,9 @@ use Rattle.node_base.specs.declared.effects.Effect.TheVariants.{Send, Answer as 
 use Rattle.version_model.specs.declared.act.Act.{Act}
 use Rattle.version_model.specs.declared.act.Act.TheVariants as act
 use Rattle.xfs_base.proofs.Alls.{all_map, all_weaker}
-use Rattle.serving_moves.specs.client_moves.Moves.{AllStill, CallLasts, CallStays, HasCall, IsFiled, IsStill, Kept, Moves}
-use Rattle.serving_moves.specs.client_moves.Moves.Move.{Steps, Loses}
-use Rattle.serving_moves.specs.client_moves.Moves.Moves.{Last, Then}
+use Rattle.serving_moves.specs.call_moves.Moves.{AllStill, CallLasts, CallStays, HasCall, IsFiled, IsStill, Kept, Moves}
+use Rattle.serving_moves.specs.call_moves.Moves.Move.{Steps, Loses}
+use Rattle.serving_moves.specs.call_moves.Moves.Moves.{Last, Then}
 use Rattle.serving_moves.specs.item_moves.Moves.{AllPlain, IsPlain, IsSilent}
 use Rattle.serving_moves.specs.item_moves.Moves.Losses.{Answering}
 

@@ -1,7 +1,7 @@
-//! What a client that serves does is made of. It has no code: the function below has an empty body, and its contract is a law. `specs/client_moves/Moves.antt`
+//! What a client that serves does is made of. It has no code: the function below has an empty body, and its contract is a law. `specs/call_moves/Moves.antt`
 //! lists the moves.
 
-ghost use Rattle.serving_moves.specs.client_moves.Moves.{CallsAreMoves, CallsStay, PacketsAreMoves, TicksAreMoves};
+ghost use Rattle.serving_moves.specs.call_moves.Moves.{CallsAreMoves, CallsStay, PacketsAreMoves, TicksAreMoves};
 
 /// Whatever comes to a client that serves, as time passes, and whatever call on blocks it makes, what it does is a list of moves: a step by which its open call,
 /// its number and its items stay, no item is answered, and nothing is acted but that segments are filed; or a segment that its open call needs is lost, of which

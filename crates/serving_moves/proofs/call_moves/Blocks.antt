@@ -31,9 +31,9 @@ use Rattle.xfs_base.specs.Modes.{is_nothing}
 use Rattle.client_moves.proofs.Following.{hands_move, let_go_moves, wrote_moves}
 use Rattle.client_moves.proofs.Uncalled.Uncalled.{CacheTakes}
 use Rattle.coop_cache.specs.declared.input.In.TheVariants as cache_in
-use Rattle.serving_moves.proofs.client_moves.Following.{moved, seals_go}
-use Rattle.serving_moves.proofs.client_moves.Keeping.{itself, stays}
-use Rattle.serving_moves.specs.client_moves.Moves.{Fits, MakesSo, Moves, tells}
+use Rattle.serving_moves.proofs.call_moves.Following.{moved, seals_go}
+use Rattle.serving_moves.proofs.call_moves.Keeping.{itself, stays}
+use Rattle.serving_moves.specs.call_moves.Moves.{Fits, MakesSo, Moves, tells}
 use Rattle.headline.specs.Calls.{IsAnswerTo}
 
 -- nothing is answered, or nothing is told by the answer

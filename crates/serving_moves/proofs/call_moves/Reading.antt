@@ -5,10 +5,10 @@ use Rattle.client_serving.specs.Sends.{Done}
 use Rattle.xfs_base.specs.declared.block.BlockId.{BlockId}
 use Rattle.xfs_base.specs.declared.segment.SegName.{SegName}
 use Rattle.xfs_base.specs.Steps.{saying}
-use Rattle.serving_moves.proofs.client_moves.Keeping.{call_then, no_call}
-use Rattle.serving_moves.specs.client_moves.Moves.{AllStill, CallStays, CallsStay, HasCall, Kept, Move, Moves}
-use Rattle.serving_moves.specs.client_moves.Moves.Move.{Steps, Loses}
-use Rattle.serving_moves.specs.client_moves.Moves.Moves.{Last, Then}
+use Rattle.serving_moves.proofs.call_moves.Keeping.{call_then, no_call}
+use Rattle.serving_moves.specs.call_moves.Moves.{AllStill, CallStays, CallsStay, HasCall, Kept, Move, Moves}
+use Rattle.serving_moves.specs.call_moves.Moves.Move.{Steps, Loses}
+use Rattle.serving_moves.specs.call_moves.Moves.Moves.{Last, Then}
 
 module _ (G : Serving → Done → Type 0) (steps : (s : Serving) (d : Done) → Kept s d.state → AllStill d.outs → G s d)
     (losses : (s : Serving) → HasCall s → (block : BlockId) (name : SegName) → G s (loses s block name))
