@@ -16,7 +16,6 @@ pub mod OwnLogs
 pub mod Cleaning
 pub mod Emptied
 mod CleanerJobs
-mod CleanerServing
 mod CleanerOpening
 mod Cleaners
 pub mod Sight

@@ -1,6 +1,6 @@
--- What a cleaner that serves does for its job, in the small world of a client's log.
+-- What a cleaner that serves does for its job and its log, in the small world of a client's log.
 use Rattle.std.proofs.Common.{◌≡◌, ◌⊎◌, ⊎_elim, ℕ, Bool, true, false, List, [], ◌∷◌, Option, Some, None, refl, sym, ap, ◌∙◌, inl, inr, arith}
-use Rattle.std.specs.Prelude.{IfSome}
+use Rattle.std.specs.Prelude.{IfSome, nat_lt}
 use Rattle.std.specs.List.{AllByRecursion, flat_map}
 use Rattle.std.proofs.lemmas.Bool.{eqb-true}
 use Rattle.xfs_base.proofs.Booleans.{by_test, contrary}
@@ -10,9 +10,13 @@ use Rattle.xfs_base.specs.declared.entry.Place.{Place}
 use Rattle.xfs_base.specs.declared.node.NodeId.TheVariants.{Cleaner, Server}
 use Rattle.xfs_base.specs.declared.segment.SegName.{SegName}
 use Rattle.xfs_base.specs.declared.segment.SegRef.{SegRef}
-use Rattle.xfs_base.specs.Steps.{still, steps}
-use Rattle.xfs_base.proofs.Alls.{all_append, all_map}
-use Rattle.segment_format.specs.declared.segment.Segment.{Segment}
+use Rattle.xfs_base.specs.Steps.{steps}
+use Rattle.xfs_base.specs.declared.segment.End.{End}
+use Rattle.xfs_base.proofs.Alls.{all_append, all_each, all_map}
+use Rattle.delta_feed.specs.declared.output.Out.{Out as FeedOut}
+use Rattle.delta_feed.specs.declared.output.Out.TheVariants.{Range}
+use Rattle.delta_feed.specs.FeedState.{FeedState}
+use Rattle.delta_feed.specs.Transition.{feed_tick}
 use Rattle.group_map.specs.GroupMapState.{GroupMapState}
 use Rattle.client_log.specs.declared.input.In.{In as LogIn}
 use Rattle.client_log.specs.declared.input.In.TheVariants as log_in
@@ -20,13 +24,13 @@ use Rattle.client_log.specs.declared.output.Out.{Out as LogOut}
 use Rattle.client_log.specs.declared.output.Out.TheVariants as log_out
 use Rattle.client_log.specs.Transition as log
 use Rattle.log_owner.specs.Opening.{stored}
-use Rattle.log_owner.specs.Sending.{fetch}
-use Rattle.node_base.specs.Asking.{draw, next_ask}
+use Rattle.log_owner.specs.declared.promised.Managers.{Managers}
+use Rattle.log_owner.specs.Promised.{epoch_of}
+use Rattle.log_owner.specs.Sending.{fetch, name_of, push_all, range}
 use Rattle.wire_msg.specs.declared.body.Body.TheVariants as body
 use Rattle.node_base.specs.declared.effects.Effect.{Effect}
-use Rattle.node_base.specs.declared.effects.Effect.TheVariants.{Send}
-use Rattle.segment_reading.specs.declared.reading.Next.{Next}
-use Rattle.segment_reading.specs.declared.reading.Next.TheVariants as next
+use Rattle.node_base.specs.declared.effects.Effect.TheVariants.{Does, Send}
+use Rattle.version_model.specs.declared.act.Act.TheVariants.{Filed}
 use Rattle.segment_reading.specs.Reading.{ReadingState, reading_unanswered}
 use Rattle.stripe_cleaner.specs.declared.input.In.{In as Input}
 use Rattle.stripe_cleaner.specs.declared.input.In.TheVariants as input
@@ -35,17 +39,13 @@ use Rattle.stripe_cleaner.specs.declared.output.Out.TheVariants as out
 use Rattle.stripe_cleaner.specs.Transition.{transition}
 use Rattle.stripe_code.specs.declared.round.Told.{Told}
 use Rattle.version_model.specs.declared.answer.Answer.TheVariants.{Count}
-use Rattle.wire_msg.specs.declared.cleaning.Dead.{Dead}
-use Rattle.wire_msg.specs.declared.cleaning.Live.{Live}
-use Rattle.wire_msg.specs.declared.cleaning.Usage.{Usage}
-use Rattle.wire_msg.specs.declared.storage.Deleted.{Deleted}
-use Rattle.wire_msg.specs.declared.storage.Listed.{Listed}
 use Rattle.cleaner_serving.specs.declared.emptying.Emptying.{Emptying}
-use Rattle.cleaner_serving.specs.Jobs.{Done, with_questions, ask_maps, ask_list, ask_usage, checked_in, emptying_check, check_sent, ask_check, holds_in, emptying_hold, emptying_read, emptying_put, put_block, move_all, emptying_delete, emptying_finish, says, takes_in, emptying_take, emptying_clean, on_listed, on_usage, on_live, on_dead, on_deleted, end_reading, told_in, emptying_hear, confirmed_in, confirmed, after_confirmed, emptying_read_again, after_told, on_told}
+use Rattle.cleaner_serving.specs.EmptyingEvents.{fed, emptying_settle, write_one, emptying_write, emptying_renew, emptying_promise}
+use Rattle.cleaner_serving.specs.Jobs.{Done, ask_maps, ask_list, ask_usage, checked_in, emptying_check, check_sent, ask_check, holds_in, emptying_hold, emptying_read, emptying_put, put_block, move_all, emptying_delete, emptying_finish, says, takes_in, emptying_take, emptying_clean, told_in, emptying_hear, confirmed_in, confirmed}
 use Rattle.cleaner_job.specs.declared.hand.Hand.{Hand}
 use Rattle.cleaner_job.specs.declared.job.Job.{Job}
-use Rattle.cleaner_job.specs.Hands.{Heard, hand_fetch, fetches}
-use Rattle.cleaner_job.specs.Jobs.{job_check, hand_checks_in, hand_of, is_whole, act_dropped, lists_of, usages_of, check_of, is_out, note_read, hand_hears_in, job_hear, hand_confirmed_in, job_confirmed}
+use Rattle.cleaner_job.specs.Hands.{hand_fetch, fetches}
+use Rattle.cleaner_job.specs.Jobs.{job_check, hand_checks_in, hand_of, is_whole, act_dropped, note_moved, hand_hears_in, job_hear, hand_confirmed_in, job_confirmed}
 use Rattle.cleaner_job.specs.Starting.{cleaner_log}
 use Rattle.log_protocol.specs.Tables.{In}
 use Rattle.log_tie.specs.Setting.{Setting}
@@ -54,14 +54,14 @@ use Rattle.log_law.specs.Net.{Net}
 use Rattle.log_law.specs.Net.Packet.{DeleteSent}
 use Rattle.log_law.specs.Events.Happens.{Drops}
 use Rattle.log_law.specs.Events.Runs.{Begun, On}
-use Rattle.node_logs.specs.node_log_tie.Sight.{Asker, ListedSeen}
+use Rattle.node_logs.specs.node_log_tie.Sight.{Asker}
 use Rattle.node_logs.specs.node_log_tie.CleanerEvents.{DropOfLog, JobSeen, EmptyingSeen}
 use Rattle.node_logs.proofs.node_log_tie.Cleaning.{OutDrops, CleaningSent, CleanOn, cleaning_takes}
-use Rattle.node_logs.proofs.node_log_tie.Emptied.{out_later, emptying_later, not_ours, CleanerDoes, Dropping, no_drop, Emptied, at_once, stays, and_then, all_steps}
+use Rattle.node_logs.proofs.node_log_tie.CleanerOpening.{hello_does, stored_so}
+use Rattle.node_logs.proofs.node_log_tie.Emptied.{out_later, emptying_later, CleanerDoes, Dropping, no_drop, Emptied, at_once, stays, and_then, all_steps}
 use Rattle.node_logs.proofs.node_log_tie.Going.{in_after, run_later}
 use Rattle.node_logs.proofs.node_log_tie.Lists.{answers_send}
 use Rattle.node_logs.proofs.node_log_tie.OwnLogs.{SendsOwn, OwnDone, own_log}
-use Rattle.node_logs.proofs.node_log_tie.RebuildEvents.{all_listed}
 
 module _ (g : Setting) (owner : Asker) (other : g.log ≡ cleaner_log → ⊥) (away : owner.node ≡ Cleaner → ⊥) where
   abbrev Goes : Net → Done → Type 0
@@ -75,7 +75,7 @@ module _ (g : Setting) (owner : Asker) (other : g.log ≡ cleaner_log → ⊥) (
   maps_asked : (n : Net) (e : Emptying) (job : Option Job) → EmptyingSeen g n e → IfSome job (JobSeen g n) → Goes n (ask_maps e job)
   maps_asked n e None seen its = stays g owner n e seen
   maps_asked n e (Some job) seen its =
-      at_once g owner n _ _ (record { log = seen.log; job = its }) (record { own = λ fact. absurd (away (sym fact)); reached = tt }, tt)
+      at_once g owner n _ _ (record { log = seen.log; job = its }) (hello_does g owner other away n e.lasting.inc _, tt)
 
   list_asked : (n : Net) (e : Emptying) (job : Option Job) (server : ℕ) → EmptyingSeen g n e → IfSome job (JobSeen g n) → Goes n (ask_list e job server)
   list_asked n e None server seen its = stays g owner n e seen
@@ -111,7 +111,7 @@ module _ (g : Setting) (owner : Asker) (other : g.log ≡ cleaner_log → ⊥) (
   asked_for n name None = tt
   asked_for n name (Some r) = all_map (CleanerDoes g owner n) (fetch name r.ask) (λ server. tt) (reading_unanswered r)
 
-  fetched : (n : Net) (hand : Option Hand) → Does_all n (fetches hand)
+  pub fetched : (n : Net) (hand : Option Hand) → Does_all n (fetches hand)
   fetched n None = tt
   fetched n (Some hand) = asked_for n hand.seg.name hand.reading
 
@@ -125,13 +125,9 @@ module _ (g : Setting) (owner : Asker) (other : g.log ≡ cleaner_log → ⊥) (
 
   -- ---- what the node does for it
 
-  fragment_stored : (n : Net) (o : LogOut) → SendsOwn cleaner_log o → Does_all n (stored o)
-  fragment_stored n (log_out.Send f member) its = ((λ own. absurd (not_ours g other f.meta.name its own), its), tt)
-  fragment_stored n (log_out.Settled end rows) its = tt
-
   all_stored : (n : Net) (outs : List LogOut) → AllByRecursion (SendsOwn cleaner_log) outs → Does_all n (flat_map stored outs)
   all_stored n [] all = tt
-  all_stored n (o ∷ outs) all = all_append (CleanerDoes g owner n) (stored o) (flat_map stored outs) (fragment_stored n o all.0) (all_stored n outs all.1)
+  all_stored n (o ∷ outs) all = all_append (CleanerDoes g owner n) (stored o) (flat_map stored outs) (stored_so g owner other away n o all.0) (all_stored n outs all.1)
 
   put_so : (n : Net) (e : Emptying) (i : LogIn) → EmptyingSeen g n e → Goes n (emptying_put e i)
   unfolding emptying_put
@@ -144,15 +140,11 @@ module _ (g : Setting) (owner : Asker) (other : g.log ≡ cleaner_log → ⊥) (
   unfolding put_block
   block_put n e one seen no_more = put_so n e (log_in.Put one.0 one.1 one.2) seen
 
-  nothing_more : {X : Type 0} (xs : List X) → AllByRecursion (λ (x : X). Unit {0}) xs
-  nothing_more [] = tt
-  nothing_more (x ∷ xs) = (tt, nothing_more xs)
-
   blocks_moved : (n : Net) (e : Emptying) (blocks : List (BlockId × Entry × Option (List ℕ))) → EmptyingSeen g n e → Goes n (move_all e blocks)
   unfolding move_all
   blocks_moved n e blocks seen =
       let d : Done = steps put_block e blocks in
-      let w : Goes n d = all_steps g owner put_block (λ m x. Unit {0}) (λ m k later x h. tt) block_put n e blocks seen (nothing_more blocks) in
+      let w : Goes n d = all_steps g owner put_block (λ m x. Unit {0}) (λ m k later x h. tt) block_put n e blocks seen (all_each (λ (x : BlockId × Entry × Option (List ℕ)). Unit {0}) (λ x. tt) blocks) in
       and_then g owner n d (emptying_put d.state log_in.Seal) w (put_so w.next d.state log_in.Seal w.seen)
 
   -- ---- a segment is dropped
@@ -250,49 +242,50 @@ module _ (g : Setting) (owner : Asker) (other : g.log ≡ cleaner_log → ⊥) (
       all_steps g owner says (OutDrops g) (λ m k later o h. out_later g m k later o h) job_says n (takes_in e e.job given).state
       (takes_in e e.job given).outs t.seen t.said
 
-  -- ---- what comes for it
+  -- ---- its log takes an input
 
-  pub list_came : (n : Net) (e : Emptying) (server : Option ℕ) (m : Listed) → EmptyingSeen g n e → ListedSeen g owner n m → Goes n (on_listed e server m)
-  unfolding on_listed
-  list_came n e None m seen sent = stays g owner n e seen
-  list_came n e (Some server) m seen sent =
-      by_test (Goes n) (is_out (lists_of e.job) m.ask) (emptying_clean e (input.Listed server m.held)) (still e)
-      (λ t. job_goes_on n e (input.Listed server m.held) seen (all_listed g n m.held sent)) (λ t. stays g owner n e seen)
+  range_said : (n : Net) (managers : Managers) (o : FeedOut) → CleanerDoes g owner n (range managers o)
+  range_said n managers (Range slot first upto rows) = tt
 
-  pub usage_came : (n : Net) (e : Emptying) (m : Usage) → EmptyingSeen g n e → Goes n (on_usage e m)
-  unfolding on_usage
-  usage_came n e m seen =
-      by_test (Goes n) (is_out (usages_of e.job) m.ask) (emptying_clean e (input.Usage m.slot m.epoch m.counts)) (still e)
-      (λ t. job_goes_on n e (input.Usage m.slot m.epoch m.counts) seen tt)
-      (λ t. stays g owner n e seen)
+  pub deltas_pushed : (n : Net) (managers : Managers) (f : FeedState) → Does_all n (push_all managers f)
+  deltas_pushed n managers f = all_map (CleanerDoes g owner n) (range managers) (range_said n managers) (feed_tick f)
 
-  pub live_came : (n : Net) (e : Emptying) (m : Live) → EmptyingSeen g n e → Goes n (on_live e m)
-  unfolding on_live
-  live_came n e m seen =
-      by_test (Goes n) (is_out (check_of (hand_of e.job) m.block) m.ask) (emptying_clean e (input.Live m.block m.epoch m.entry)) (still e)
-      (λ t. job_goes_on n e (input.Live m.block m.epoch m.entry) seen tt) (λ t. stays g owner n e seen)
+  -- a job of the same phase is seen as it was
+  pub job_kept : (n : Net) (f : Option Job → Option Job) → IfSome (f None) (JobSeen g n) → ((job : Job) → JobSeen g n job → IfSome (f (Some job)) (JobSeen g n))
+      → (job : Option Job) → IfSome job (JobSeen g n) → IfSome (f job) (JobSeen g n)
+  job_kept n f none some None its = none
+  job_kept n f none some (Some job) its = some job its
 
-  pub dead_came : (n : Net) (e : Emptying) (m : Dead) → EmptyingSeen g n e → Goes n (on_dead e m)
-  unfolding on_dead
-  dead_came n e m seen =
-      by_test (Goes n) (is_out (check_of (hand_of e.job) m.block) m.ask) (emptying_clean e (input.Dead m.block m.epoch)) (still e)
-      (λ t. job_goes_on n e (input.Dead m.block m.epoch) seen tt) (λ t. stays g owner n e seen)
+  segment_settled : (n : Net) (e : Emptying) (end : End) (rows : List (BlockId × Entry)) → EmptyingSeen g n e → Goes n (emptying_settle e end rows)
+  unfolding emptying_settle
+  segment_settled n e end rows seen =
+      let f : Emptying = fed e end rows in
+      let settled : EmptyingSeen g n f = record { log = seen.log; job = job_kept n note_moved tt (λ job its. its) e.job seen.job } in
+      let said : Done = record { state = f; outs = Does (Filed (name_of cleaner_log end)) ∷ push_all f.promised.managers f.feed } in
+      let w : Goes n said = at_once g owner n f said.outs settled (tt, deltas_pushed n f.promised.managers f.feed) in
+      and_then g owner n said (emptying_clean f input.Moved) w (job_goes_on w.next f input.Moved w.seen tt)
 
-  pub deleted_came : (n : Net) (e : Emptying) (server : Option ℕ) (m : Deleted) → EmptyingSeen g n e → Goes n (on_deleted e server m)
-  unfolding on_deleted
-  deleted_came n e None m seen = stays g owner n e seen
-  deleted_came n e (Some server) m seen = job_goes_on n e (input.Deleted server m.name) seen tt
+  one_written : (n : Net) (e : Emptying) (o : LogOut) → EmptyingSeen g n e → SendsOwn cleaner_log o → Goes n (write_one e o)
+  unfolding write_one
+  one_written n e (log_out.Send f member) seen its = at_once g owner n e _ seen (stored_so g owner other away n (log_out.Send f member) its)
+  one_written n e (log_out.Settled end rows) seen its = segment_settled n e end rows seen
 
-  -- ---- the reading of the segment in hand
+  pub log_takes : (n : Net) (e : Emptying) (i : LogIn) → EmptyingSeen g n e → Goes n (emptying_write e i)
+  unfolding emptying_write
+  log_takes n e i seen =
+      let d : OwnDone cleaner_log (log.transition e.log i) = own_log cleaner_log e.log i seen.log in
+      all_steps g owner write_one (λ m o. SendsOwn cleaner_log o) (λ m k later o h. h) one_written n (record e { log = (log.transition e.log i).state })
+      (log.transition e.log i).outs
+      (record { log = d.state; job = seen.job }) d.outs
 
-  read_kept : (n : Net) (job : Option Job) → IfSome job (JobSeen g n) → IfSome (note_read job) (JobSeen g n)
-  read_kept n None its = tt
-  read_kept n (Some job) its = its
+  -- ---- what changes nothing of what is seen
 
-  reading_ended : (n : Net) (e : Emptying) (read : Option Segment) → EmptyingSeen g n e → Goes n (end_reading e read)
-  unfolding end_reading
-  reading_ended n e read seen =
-      job_goes_on n (record e { job = note_read e.job }) (input.Read read) (record { log = seen.log; job = read_kept n e.job seen.job }) tt
+  pub promised : (n : Net) (e : Emptying) (slot epoch manager : ℕ) → EmptyingSeen g n e → EmptyingSeen g n (emptying_promise e slot epoch manager)
+  unfolding emptying_promise
+  promised n e slot epoch manager seen =
+      let r : EmptyingSeen g n (emptying_renew e slot epoch) =
+      by_test (EmptyingSeen g n) (nat_lt (epoch_of e.promised slot) epoch) _ e (λ t. record { log = seen.log; job = seen.job }) (λ t. seen) in
+      record { log = r.log; job = r.job }
 
   confirms_hand : (n : Net) (job : Job) (hand : Option Hand) (ask : ℕ) → JobSeen g n job → JobSeen g n (hand_confirmed_in job hand ask).state
   confirms_hand n job None ask its = its
@@ -304,24 +297,9 @@ module _ (g : Setting) (owner : Asker) (other : g.log ≡ cleaner_log → ⊥) (
   confirms n e None ask seen its = seen
   confirms n e (Some job) ask seen its = record { log = seen.log; job = confirms_hand n job job.hand ask its }
 
-  confirmed_so : (n : Net) (e : Emptying) (x : Next) → EmptyingSeen g n e → Goes n (after_confirmed e x)
-  confirmed_so n e next.Ask seen = at_once g owner n e _ seen (fetched n (hand_of e.job))
-  confirmed_so n e next.Lost seen = reading_ended n e None seen
-  confirmed_so n e _ seen = stays g owner n e seen
-
-  read_again : (n : Net) (e : Emptying) → EmptyingSeen g n e → Goes n (emptying_read_again e)
-  unfolding emptying_read_again confirmed
-  read_again n e seen =
-      let h : Heard Emptying = confirmed (with_questions e (draw e.lasting.questions)) (next_ask e.lasting.questions) in
-      confirmed_so n h.state h.next
-      (confirms n (with_questions e (draw e.lasting.questions)) e.job (next_ask e.lasting.questions) (record { log = seen.log; job = seen.job }) seen.job)
-
-  told_so : (n : Net) (e : Emptying) (x : Next) → EmptyingSeen g n e → Goes n (after_told e x)
-  told_so n e next.Wait seen = stays g owner n e seen
-  told_so n e next.Ask seen = stays g owner n e seen
-  told_so n e next.Again seen = read_again n e seen
-  told_so n e (next.Read segment) seen = reading_ended n e (Some segment) seen
-  told_so n e next.Lost seen = reading_ended n e None seen
+  pub reads_on : (n : Net) (e : Emptying) (ask : ℕ) → EmptyingSeen g n e → EmptyingSeen g n (confirmed e ask).state
+  unfolding confirmed
+  reads_on n e ask seen = confirms n e e.job ask seen seen.job
 
   hears_hand : (n : Net) (job : Job) (hand : Option Hand) (groups : GroupMapState) (ask server : ℕ) (t : Told) → JobSeen g n job
       → JobSeen g n (hand_hears_in job hand groups ask server t).state
@@ -336,8 +314,6 @@ module _ (g : Setting) (owner : Asker) (other : g.log ≡ cleaner_log → ⊥) (
   hears_told n e (Some job) None ask server t seen its = seen
   hears_told n e (Some job) (Some groups) ask server t seen its = record { log = seen.log; job = hears_hand n job job.hand groups ask server t its }
 
-  pub told_came : (n : Net) (e : Emptying) (server : Option ℕ) (ask : ℕ) (t : Told) → EmptyingSeen g n e → Goes n (on_told e server ask t)
-  unfolding on_told emptying_hear
-  told_came n e None ask t seen = stays g owner n e seen
-  told_came n e (Some server) ask t seen =
-      told_so n (emptying_hear e ask server t).state (emptying_hear e ask server t).next (hears_told n e e.job e.maps.groups ask server t seen seen.job)
+  pub hears : (n : Net) (e : Emptying) (ask server : ℕ) (t : Told) → EmptyingSeen g n e → EmptyingSeen g n (emptying_hear e ask server t).state
+  unfolding emptying_hear
+  hears n e ask server t seen = hears_told n e e.job e.maps.groups ask server t seen seen.job

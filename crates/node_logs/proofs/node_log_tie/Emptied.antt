@@ -23,6 +23,8 @@ use Rattle.version_model.specs.declared.act.Act.TheVariants as act
 use Rattle.wire_msg.specs.declared.body.Body.{Body}
 use Rattle.wire_msg.specs.declared.body.Body.TheVariants as body
 use Rattle.wire_msg.specs.declared.packet.Packet.{Packet}
+use Rattle.cleaner_node.specs.declared.cleaner.Phase as cleaners
+use Rattle.cleaner_node.specs.declared.cleaner.Phase.TheVariants.{Serving}
 use Rattle.cleaner_serving.specs.declared.emptying.Emptying.{Emptying}
 use Rattle.cleaner_serving.specs.Jobs.{Done}
 use Rattle.cleaner_job.specs.declared.job.Job.{Job}
@@ -35,7 +37,7 @@ use Rattle.log_law.specs.Events.{Runs}
 use Rattle.log_law.specs.Events.Runs.{Begun}
 use Rattle.node_logs.specs.node_log_tie.Sight.{Asker, BodySeen}
 use Rattle.node_logs.proofs.node_log_tie.Sight.{EffectSeen, Later}
-use Rattle.node_logs.specs.node_log_tie.CleanerEvents.{DropOfLog, AllDrop, Candidates, JobPhaseSeen, JobSeen, EmptyingSeen, DropActed, OnlyDeleted, all_but_drops}
+use Rattle.node_logs.specs.node_log_tie.CleanerEvents.{DropOfLog, AllDrop, Candidates, JobPhaseSeen, JobSeen, EmptyingSeen, CleanerSeen, DropActed, OnlyDeleted, all_but_drops}
 use Rattle.node_logs.proofs.node_log_tie.Cleaning.{OutDrops}
 use Rattle.node_logs.proofs.node_log_tie.Going.{in_after, in_before, run_later, runs_on}
 use Rattle.node_logs.proofs.node_log_tie.Lists.{if_some, packets_all}
@@ -148,42 +150,42 @@ module _ (g : Setting) (owner : Asker) where
   does_later n next d (Lose seg) h = tt
   does_later n next d (Does a) h = acted_later n next d a h
 
-  pub all_does_later : (n next : Net) → Dropping n next → (outs : List Effect) → AllByRecursion (CleanerDoes n) outs → AllByRecursion (CleanerDoes next) outs
+  all_does_later : (n next : Net) → Dropping n next → (outs : List Effect) → AllByRecursion (CleanerDoes n) outs → AllByRecursion (CleanerDoes next) outs
   all_does_later n next d outs all = all_weaker (CleanerDoes n) (CleanerDoes next) (does_later n next d) outs all
 
   -- The cleaner goes on, and so does the small world, by drops alone, of what it orders to be deleted.
-  pub record Emptied (n : Net) (d : Done) : Type 0 where
+  pub record Goes (n : Net) (p : cleaners.Phase) (outs : List Effect) : Type 0 where
     pub next : Net
     pub drop : Dropping n next
-    pub seen : EmptyingSeen g next d.state
-    pub does : AllByRecursion (CleanerDoes next) d.outs
-    pub only : OnlyOrdered n next d.outs
+    pub seen : CleanerSeen g next p
+    pub does : AllByRecursion (CleanerDoes next) outs
+    pub only : OnlyOrdered n next outs
+
+  pub says_once : (n : Net) (p : cleaners.Phase) (outs : List Effect) → CleanerSeen g n p → AllByRecursion (CleanerDoes n) outs → Goes n p outs
+  says_once n p outs seen does = record { next = n; drop = no_drop n; seen = seen; does = does; only = λ name fact. inl fact }
+
+  pub goes_then : (n : Net) (p q : cleaners.Phase) (outs more : List Effect) (w : Goes n p outs) → Goes w.next q more → Goes n q (outs ++ more)
+  goes_then n p q outs more w x = record {
+    next = x.next;
+    drop = then_drop n w.next x.next w.drop x.drop;
+    seen = x.seen;
+    does = all_append (CleanerDoes x.next) outs more (all_does_later w.next x.next x.drop outs w.does) x.does;
+    only = ordered_then n w.next x.next outs more w.only x.only;
+  }
+
+  -- so does one that serves
+  abbrev pub Emptied : Net → Done → Type 0
+  Emptied n d = Goes n (Serving d.state) d.outs
 
   pub at_once : (n : Net) (e : Emptying) (outs : List Effect) → EmptyingSeen g n e → AllByRecursion (CleanerDoes n) outs
       → Emptied n (record { state = e; outs = outs })
-  at_once n e outs seen does = record { next = n; drop = no_drop n; seen = seen; does = does; only = λ name fact. inl fact }
+  at_once n e outs seen does = says_once n (Serving e) outs seen does
 
   pub stays : (n : Net) (e : Emptying) → EmptyingSeen g n e → Emptied n (still e)
   stays n e seen = at_once n e [] seen tt
 
   pub and_then : (n : Net) (d e : Done) (w : Emptied n d) → Emptied w.next e → Emptied n (saying d.outs e)
-  and_then n d e w x = record {
-    next = x.next;
-    drop = then_drop n w.next x.next w.drop x.drop;
-    seen = x.seen;
-    does = all_append (CleanerDoes x.next) d.outs e.outs (all_does_later w.next x.next x.drop d.outs w.does) x.does;
-    only = ordered_then n w.next x.next d.outs e.outs w.only x.only;
-  }
-
-  -- effects that are seen at once, and then the rest
-  pub after_these : (n : Net) (outs : List Effect) (e : Done) → AllByRecursion (CleanerDoes n) outs → Emptied n e → Emptied n (saying outs e)
-  after_these n outs e does x = record {
-    next = x.next;
-    drop = x.drop;
-    seen = x.seen;
-    does = all_append (CleanerDoes x.next) outs e.outs (all_does_later n x.next x.drop outs does) x.does;
-    only = ordered_then n n x.next outs e.outs (λ name fact. inl fact) x.only;
-  }
+  and_then n d e w x = goes_then n (Serving d.state) (Serving e.state) d.outs e.outs w x
 
   -- one step after the other
   pub all_steps : {A : Type 0} (step : Emptying → A → Done) (P : Net → A → Type 0) → ((n m : Net) → Later n m → (x : A) → P n x → P m x)
