@@ -1,10 +1,9 @@
 -- An opening asks no more questions than its node, but for one by which it waits in vain.
-use Rattle.std.proofs.Common.{⊎_elim, ◌≡◌, ◌≤◌, ◌<◌, ℕ, ◌+◌, ◌==◌, ◌&&◌, true, cond, List, [], ◌∷◌, Option, Some, None, nat_lt, sym, subst, inl, inr, arith}
+use Rattle.std.proofs.Common.{⊎_elim, ◌≡◌, ◌≤◌, ◌<◌, ℕ, ◌+◌, ◌==◌, true, cond, List, [], ◌∷◌, Option, Some, None, nat_lt, sym, subst, inl, inr, arith}
 use Rattle.std.specs.List.{AllByRecursion}
 use Rattle.std.proofs.lemmas.Bool.Decides.{nat_tests}
 use Rattle.std.proofs.lemmas.Bool.{lt-ltb}
 use Rattle.xfs_base.proofs.Booleans.{by_test}
-use Rattle.xfs_base.specs.declared.node.NodeId.{NodeId}
 use Rattle.xfs_base.specs.declared.segment.End.{End}
 use Rattle.xfs_base.specs.Limits.{u32_end}
 use Rattle.xfs_base.specs.Steps.{steps, still}
@@ -14,33 +13,27 @@ use Rattle.client_log.specs.declared.input.In.TheVariants as log_in
 use Rattle.client_log.specs.Transition as log
 use Rattle.log_owner.specs.declared.ended.Owner.{Owner}
 use Rattle.log_owner.specs.declared.known.Known.{Known}
-use Rattle.log_owner.specs.declared.opening.Opening.{Opening}
 use Rattle.log_owner.specs.declared.opening.Scanning.{Scanning}
 use Rattle.log_owner.specs.declared.opening.Settling.{Settling}
 use Rattle.log_owner.specs.declared.opening.Stage.{Stage}
 use Rattle.log_owner.specs.declared.opening.Stage.TheVariants as stage
-use Rattle.log_owner.specs.Opening.{Went, Moved, went, stays, drops, known_scanning, nothing_asked, sent_send, scanned, written, known_go_on, known_write, behind, settles_over, known_follow, scans_on, scans_at, scans, welcomed_with, welcomed, welcomed_as, is_meant, on_welcome, regrouped, on_news, is_fenced, fenced_by, by_server, on_fenced, own_in, answers, found_by, missing_by, on_found, on_missing, on_stored, on_tick, on_body, opening_take}
+use Rattle.log_owner.specs.Opening.{Went, Moved, known_scanning, nothing_asked, sent_send, scanned, written, known_go_on, known_write, behind, settles_over, known_follow, scans_on, welcomed_with, welcomed}
 use Rattle.log_owner.specs.Promised.{promised_of}
-use Rattle.log_owner.specs.Sending.{server_in}
 use Rattle.log_scan.specs.declared.input.In.{In}
 use Rattle.log_scan.specs.declared.input.In.TheVariants as input
 use Rattle.log_scan.specs.declared.output.Out.{Out}
 use Rattle.log_scan.specs.declared.output.Out.TheVariants.{Hello, Fence, Fetch, Chain, Lost}
 use Rattle.log_scan.specs.declared.stage.Stage.TheVariants.{Reads}
 use Rattle.log_scan.specs.Transition as scan
-use Rattle.node_base.specs.Asking.{draw, drawn_for, asked_as, own_of}
+use Rattle.node_base.specs.Asking.{draw, drawn_for, asked_as}
 use Rattle.node_base.specs.declared.questions.Asked.{Asked}
 use Rattle.node_base.specs.declared.questions.Questions.{Questions}
-use Rattle.node_base.specs.Known.{names_known_groups}
-use Rattle.node_base.specs.Maps.{fits, is_older, maps_take}
+use Rattle.node_base.specs.Maps.{maps_take}
 use Rattle.node_base.specs.Room.{has_room}
 use Rattle.node_base.specs.Shape.{is_log}
-use Rattle.wire_msg.specs.declared.body.Body.{Body}
-use Rattle.wire_msg.specs.declared.body.Body.TheVariants as body
 use Rattle.wire_msg.specs.declared.registry.News.{News}
-use Rattle.wire_msg.specs.declared.registry.Welcome.{Welcome}
-use Rattle.wire_msg.specs.declared.storage.Fenced.{Fenced}
-use Rattle.wire_msg.specs.declared.storage.Stored.{Stored}
+use Rattle.node_moves.proofs.OpeningWalk as walked
+use Rattle.node_moves.proofs.OpeningWalk.{Any, Walk}
 use Rattle.node_logs.specs.opening_law.Questions.{WaitsInVain, PastStage, ScanAsks, StageAsks, ProgressAsks, AsksOn, StartAsksFew, PacketAsksFew, TickAsksFew, GroupsAfter, GroupsCome, QuestionsAreLeft}
 use Rattle.node_logs.proofs.opening_law.Steps.{UpTo, AsksBy, Old, New, Steps, Still, says_so, still_so}
 
@@ -205,10 +198,6 @@ module _ (q : Questions) (room : has_room q.last ≡ true) where
       (scanned k.owner d.state.opening.low s.asked q d.outs).state.questions.last
       (step_few k.owner q s room h i)
 
-  at_few : (k : Known) (i : In) (at : Stage) → StageAsks at q.last → AsksOn (scans_at k q i at)
-  at_few k i (stage.Scanning s) h = scan_few k s i h
-  at_few k i (stage.Settling s) h = tt
-
   welcome_with : (k : Known) (s : Scanning) (news : News) (own : ℕ) (groups : Option GroupMapState) → ScanAsks s q.last
       → AsksOn (welcomed_with k q s news own groups)
   welcome_with k s news own None h = h
@@ -216,67 +205,9 @@ module _ (q : Questions) (room : has_room q.last ≡ true) where
       scan_few (record k { promised = promised_of news.slots }) (record s { asked = nothing_asked }) (input.Welcome own news.slots groups)
       (record { few = h.few; past = omega arith; reads = h.reads })
 
-  welcome_as : (k : Known) (s : Scanning) (news : News) (own : Option ℕ) → ScanAsks s q.last → AsksOn (welcomed_as k q s news own)
+  welcome_few : (k : Known) (s : Scanning) (news : News) (own : ℕ) → ScanAsks s q.last → AsksOn (welcomed k q s news own)
   unfolding welcomed
-  welcome_as k s news None h = h
-  welcome_as k s news (Some own) h = welcome_with (record k { maps = maps_take k.maps news }) s news own (maps_take k.maps news).groups h
-
-  welcome_few : (o : Opening) (m : Welcome) → StageAsks o.stage q.last → AsksOn (on_welcome o q m)
-  unfolding on_welcome
-  welcome_few o m h = by_stage o.stage h
-    where
-      by_stage : (at : Stage) → StageAsks at q.last → AsksOn (on_welcome (record o { stage = at }) q m)
-      by_stage (stage.Scanning s) h =
-          by_test AsksOn (is_meant o.known m) (welcomed_as o.known q s m.news (own_of s.asked m.ask)) (stays (known_scanning o.known s) q)
-          (λ t. welcome_as o.known s m.news (own_of s.asked m.ask) h)
-          (λ t. h)
-      by_stage (stage.Settling s) h = tt
-
-  regroup_few : (k : Known) (groups : GroupMapState) (at : Stage) → StageAsks at q.last → AsksOn (regrouped k q groups at)
-  regroup_few k groups (stage.Scanning s) h = scan_few k s (input.Maps groups) h
-  regroup_few k groups (stage.Settling s) h = writes_few k s (log_in.Maps groups) q.last
-
-  news_few : (o : Opening) (news : News) → StageAsks o.stage q.last → AsksOn (on_news o q news)
-  unfolding on_news
-  news_few o news h =
-      by_test AsksOn (fits o.known.maps news && is_older o.known.maps news)
-      (regrouped (record o.known { maps = maps_take o.known.maps news }) q news.groups o.stage) (drops o q)
-      (λ t. regroup_few (record o.known { maps = maps_take o.known.maps news }) news.groups o.stage h) (λ t. h)
-
-  server_few : (o : Opening) (f : ℕ → Went) (server : Option ℕ) → StageAsks o.stage q.last → ((v : ℕ) → AsksOn (f v)) → AsksOn (by_server o q f server)
-  server_few o f None h each = h
-  server_few o f (Some server) h each = each server
-
-  fenced_few : (o : Opening) (from : NodeId) (m : Fenced) → StageAsks o.stage q.last → AsksOn (on_fenced o q from m)
-  unfolding on_fenced
-  fenced_few o from m h =
-      server_few o (fenced_by o q m) (server_in from) h
-      (λ v. by_test AsksOn (is_fenced o m) (scans o q (input.Fenced v m.generation m.held)) (drops o q)
-      (λ t. at_few o.known (input.Fenced v m.generation m.held) o.stage h) (λ t. h))
-
-  answer_few : (o : Opening) (f : ℕ → In) (own : Option ℕ) → StageAsks o.stage q.last → AsksOn (answers o q f own)
-  answer_few o f None h = h
-  answer_few o f (Some own) h = at_few o.known (f own) o.stage h
-
-  stored_few : (o : Opening) (m : Stored) → StageAsks o.stage q.last → AsksOn (on_stored o q m)
-  unfolding on_stored
-  stored_few o m h = by_stage o.stage h
-    where
-      by_stage : (at : Stage) → StageAsks at q.last → AsksOn (on_stored (record o { stage = at }) q m)
-      by_stage (stage.Scanning s) h = h
-      by_stage (stage.Settling s) h = writes_few o.known s (log_in.Acked m.name m.index m.generation) q.last
-
-  body_few : (o : Opening) (from : NodeId) (b : Body) → StageAsks o.stage q.last → AsksOn (on_body o q from b)
-  unfolding on_body on_found on_missing
-  body_few o from (body.Welcome m) h = welcome_few o m h
-  body_few o from (body.MapNews m) h = news_few o m h
-  body_few o from (body.Fenced m) h = fenced_few o from m h
-  body_few o from (body.Fragment m) h =
-      server_few o (found_by o q m) (server_in from) h (λ v. answer_few o (λ own. input.Got own v m.generation m.fragment) (own_in o.stage m.ask) h)
-  body_few o from (body.Missing m) h =
-      server_few o (missing_by o q m) (server_in from) h (λ v. answer_few o (λ own. input.Missing own v m.generation) (own_in o.stage m.ask) h)
-  body_few o from (body.Stored m) h = stored_few o m h
-  body_few o from _ h = h
+  welcome_few k s news own h = welcome_with (record k { maps = maps_take k.maps news }) s news own (maps_take k.maps news).groups h
 
 -- more questions of the node do no harm
 drawn_few : (at : Stage) (q : Questions) → StageAsks at q.last → StageAsks at (draw q).last
@@ -285,20 +216,24 @@ drawn_few (stage.Scanning s) q h =
     record { few = ⊎_elim (λ small. inl (omega arith)) (λ v. inr (v.0, (let b = v.1 in omega arith))) h.few; past = h.past; reads = h.reads }
 drawn_few (stage.Settling s) q h = tt
 
+abbrev Holds : Known → Questions → Stage → Went → Type 0
+Holds k q at w = has_room q.last ≡ true → StageAsks at q.last → AsksOn w
+
+walk : Walk Any Holds
+walk = record {
+  rests = λ o q room h. h;
+  asks = λ o q room h. drawn_few o.stage q h;
+  scan = λ k q s i comes room h. scan_few q room k s i h;
+  log = λ k q s i heard room h. writes_few k s i q.last;
+  welcome = λ from k q s m own said room h. welcome_few q room k s m.news own h;
+  newer = λ from k news q at w said goes room h. goes room h;
+}
+
 pub packet_few : PacketAsksFew
-unfolding opening_take
-packet_few o q packet room h =
-    by_test AsksOn (names_known_groups o.known.maps packet.body) (on_body o q packet.from packet.body) (went _ (draw q) _)
-    (λ t. body_few q room o packet.from packet.body h)
-    (λ t. drawn_few o.stage q h)
+packet_few o q packet room h = walked.packet_so Any Holds walk o q packet tt room h
 
 pub tick_few : TickAsksFew
-unfolding on_tick
-tick_few o q room h = by_stage o.stage h
-  where
-    by_stage : (at : Stage) → StageAsks at q.last → AsksOn (on_tick (record o { stage = at }) q)
-    by_stage (stage.Scanning s) h = scan_few q room o.known s input.Tick h
-    by_stage (stage.Settling s) h = writes_few o.known s log_in.Tick q.last
+tick_few o q room h = walked.tick_so Any Holds walk o q room h
 
 pub starts_few : StartAsksFew
 starts_few owner servers q room = record { few = inl (let m = last_drawn q.last room in omega arith); past = omega arith; reads = tt }
