@@ -22,9 +22,6 @@ use Rattle.core_world.specs.declared.any_node.AnyNode.TheVariants as any
 use Rattle.file_plan.specs.declared.block_call.BlockAnswer.{BlockAnswer}
 use Rattle.file_plan.specs.declared.block_call.BlockCall.{BlockCall}
 use Rattle.file_plan.specs.declared.block_call.BlockCall.TheVariants.{Get, Put, PutAt, Sync}
-use Rattle.group_map.specs.declared.group.Member.{Member}
-use Rattle.log_flight.specs.Flights.{FlightState, is_noted}
-use Rattle.log_flight.specs.Fragments.{flight_fragment}
 use Rattle.node_base.specs.Shape.{is_well_formed}
 use Rattle.token_client.specs.declared.held.Wanted.{Wanted}
 use Rattle.token_client.specs.Held.{is_dirty, may_write}
@@ -165,23 +162,11 @@ again_of s block w = record {
   body = body.Want (record { block = block; inc = s.lasting.inc; req = w.req; again = w.again + 1; mode = w.mode; end = s.log.end.seq });
 }
 
--- the fragment of what is in flight that a member is to store, sent to it once more
-abbrev pub store_again : Serving → FlightState → ℕ → Member → Packet
-store_again s f place member = record {
-  from = nodes.Client s.lasting.number;
-  to = nodes.Server member.server;
-  clock = 0;
-  body = body.Store (record { fragment = flight_fragment f.segment f.group place; generation = member.generation });
-}
-
 -- Time passes at a client that serves, with counters far from their ends:
 pub record AsksAgain (c : Client) : Type 0 where
   -- each want is sent again, where none was sent so often that it can't be counted once more
   pub wants : (s : Serving) → c.phase ≡ Serves s → client_has_room c ≡ true → list_any (λ h. is_spent h.want) (values_of s.tokens.blocks) ≡ false → (block : BlockId)
       → (w : Wanted) → (held_at s block).want ≡ Some w → In (again_of s block w) (client_step c Tick).packets
-  -- and of what is in flight each fragment of which its member isn't known to hold it
-  pub stores : (s : Serving) → c.phase ≡ Serves s → client_has_room c ≡ true → (f : FlightState) → s.log.flight ≡ Some f → (place : ℕ) (member : Member)
-      → slice_get f.group.members place ≡ Some member → is_noted f.noted place ≡ false → In (store_again s f place member) (client_step c Tick).packets
 
 abbrev pub WantsAgain : Estate AnyNode → Type 0
 WantsAgain e =

@@ -4,5 +4,4 @@ mod Cutting
 mod Asked
 mod Waits
 pub mod Again
-mod Stores
 mod Runs

@@ -21,8 +21,8 @@ pub fn open_calls_have_asked()
 }
 
 /// Time passes at a client that serves, with counters far from their ends: each want that is out is sent once more, to the manager that its slot is promised to, with
-/// the same number and mode and one repetition more. But where a want was sent so often that its count is at the end of its type, none is. And each fragment of the
-/// segment in flight of which its member isn't known to hold it is sent to it once more.
+/// the same number and mode and one repetition more. But where a want was sent so often that its count is at the end of its type, none is. (What it says again
+/// besides, `what_is_unanswered_is_said_again` has.)
 pub fn wants_are_sent_again()
     ensures events { EachTickAsksAgain }
     ensures runs { EachRunWantsAgain }

@@ -42,7 +42,9 @@ use Rattle.xfs_base.specs.declared.token.Mode.{Mode}
 use Rattle.xfs_base.specs.declared.node.NodeId.{NodeId}
 use Rattle.xfs_base.specs.declared.node.NodeId.TheVariants as nodes
 use Rattle.xfs_base.specs.Steps.{steps, still}
+use Rattle.run_answers.specs.wait_law.Again.{EachTickAsksAgain}
 use Rattle.headline.specs.Waits.{again_of}
+use Rattle.run_answers.specs.wait_law.Again.{EachTickAsksAgain}
 
 -- ---- lists
 
@@ -240,3 +242,6 @@ wants_again c s serves room none block w is =
     let packet : Packet = again_of s block w in
     at_tick c s serves room packet
     (sent (nodes.Client s.lasting.number) packet.to packet.body (client_tick c.cache (Serves s)).outs (time_so s block w c.cache none is))
+
+pub each_tick : EachTickAsksAgain
+each_tick c = record { wants = wants_again c }

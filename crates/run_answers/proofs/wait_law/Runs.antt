@@ -17,7 +17,7 @@ use Rattle.xfs_base.specs.declared.node.NodeId.{NodeId}
 use Rattle.xfs_base.specs.declared.node.NodeId.TheVariants as nodes
 use Rattle.xfs_base.specs.declared.setup.Setup.{Setup}
 use Rattle.run_answers.proofs.standing_law.Moments.{each_moment, each_stands}
-use Rattle.run_answers.proofs.wait_law.Stores.{each_tick}
+use Rattle.run_answers.proofs.wait_law.Again.{each_tick}
 use Rattle.run_answers.proofs.wait_law.Waits.{after_last, event_waits, start_waits}
 use Rattle.run_answers.specs.wait_law.Runs.{EachRunWantsAgain, EachRunsCallsWait}
 use Rattle.headline.specs.Calls.{call_in}
