@@ -1,7 +1,7 @@
 -- What calls find of the versions of blocks: a write makes the version behind the newest; one that names a version is made where just that is the newest, and is
--- told that the version has changed where another is.
+-- told that the version has changed where there are more since.
 use Rattle.std.specs.List.{AllByRecursion}
-use Rattle.std.specs.Prelude.{◌≡◌, ◌+◌, ◌⊎◌, ℕ, suc, List, [], ◌++◌, Option, Some, None, slice_get}
+use Rattle.std.specs.Prelude.{◌≡◌, ◌<◌, ◌+◌, ◌⊎◌, ℕ, suc, List, [], ◌++◌, Option, Some, None, slice_get}
 use Rattle.client_call.specs.Calls.{plan_answered}
 use Rattle.client_call.specs.declared.call.Call.{Call}
 use Rattle.client_call.specs.declared.call.Going.{Going}
@@ -38,7 +38,7 @@ use Rattle.headline.specs.Updates.{versions_behind}
 abbrev pub IsFound : (BlockId → ℕ) → BlockCall → BlockAnswer → Type 0
 IsFound versions (Put block value) (Written ver) = ver ≡ versions block + 1
 IsFound versions (PutAt block named value) (Written ver) = named ≡ versions block
-IsFound versions (PutAt block named value) Changed = named ≡ versions block → ⊥
+IsFound versions (PutAt block named value) Changed = named < versions block
 IsFound versions _ _ = Unit {0}
 
 -- A stretch of one event, of which each answer is as the block is behind the acts of the run up to there, of which these are those before it.

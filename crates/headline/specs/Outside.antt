@@ -52,7 +52,7 @@ pub record OutsideIsSafe (e : Estate AnyNode) : Type 0 where
   -- and what a call writes over a version that it named, it writes over just that, so that no update of another is lost: up to there
   pub updates : NoUpdateIsLost e
   -- each call on blocks finds its block as all acts so far left it: a write makes the version behind the newest; one over a version that it named is made only
-  -- where that is the newest, and is told that it has changed only where it isn't: up to there
+  -- where that is the newest, and is told that it has changed only where there are more: up to there
   pub changes : CallsFindVersions e
   -- so where all items are calls on blocks, and each answer is that of a call that is done, the answers are those of one machine with one table of blocks, which
   -- makes the calls in the order of their answers; and where that is the order of the lines, the text is the one machine's

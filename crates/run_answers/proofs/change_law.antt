@@ -2,6 +2,10 @@ mod Arriving
 mod Finding
 mod Fresh
 mod Granted
+mod Keeping
+mod Lasting
+mod Naming
 mod Runs
+mod Stepping
 mod Turns
 mod Walking

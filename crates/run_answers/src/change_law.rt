@@ -10,7 +10,7 @@ use token_law::acts_are_legal;
 
 /// In each run of a script of whose setup a run can be started, up to the first doubtful restart: in each event each call on blocks of a client that is answered is
 /// answered as the history of the block is at that moment. A write makes the version behind the newest. One that names a version to be written over is made where
-/// just that is the newest, and where another is, it is told that the version has changed, and only there.
+/// just that is the newest, and it is told that the version has changed only where the block has more versions than that.
 pub fn calls_find_versions()
     ensures finds { EachRunsCallsFindVersions }
 {

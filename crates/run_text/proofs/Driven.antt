@@ -1,5 +1,5 @@
 -- The one machine, driven beside a call of a client: as long as each call on blocks is answered as the histories have it, the machine gives the same answers.
-use Rattle.std.proofs.Common.{◌≡◌, ℕ, suc, ◌+◌, ◌==◌, Bool, true, false, cond, List, [], ◌∷◌, ◌++◌, length, Option, Some, None, refl, sym, ap, subst, ◌∙◌, arith}
+use Rattle.std.proofs.Common.{◌<◌, ◌≡◌, ℕ, suc, ◌+◌, ◌==◌, Bool, true, false, cond, List, [], ◌∷◌, ◌++◌, length, Option, Some, None, refl, sym, ap, subst, ◌∙◌, arith}
 use Rattle.std.proofs.lemmas.Bool.{eqb-true}
 use Rattle.std.proofs.lemmas.Bool.Decides.{nat_tests}
 use Rattle.std.proofs.lemmas.List.Elements.{filter-append}
@@ -143,7 +143,10 @@ module _ (client : ℕ) (so_far : List Act) (w : World) (shows : Shows (behind s
     changed so = record { answer = ap (λ (s : Served). s.answer) is; shown = subst (λ (s : Served). Shows (behind so_far) s.world) (sym is) shows }
       where
         by : (t : Bool) → (w.ver block.ino block.blk == named) ≡ t → t ≡ false
-        by true test = absurd (so (sym (eqb-true (w.ver block.ino block.blk) named test) ∙ (shows block).newest))
+        by true test =
+            let same : named ≡ versions_behind so_far block = sym (eqb-true (w.ver block.ino block.blk) named test) ∙ (shows block).newest in
+            let more : named < versions_behind so_far block = so in
+            absurd (omega (arith, same, more))
         by false test = refl
 
         is : serve w (PutAt block named value) ≡ unwritten

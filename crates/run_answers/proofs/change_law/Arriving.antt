@@ -41,6 +41,7 @@ use Rattle.xfs_base.specs.declared.token.Stamp.{Stamp}
 use Rattle.xfs_base.specs.Limits.{slot_count, u64_end}
 use Rattle.xfs_base.specs.Modes.{is_held, is_own, same_mode}
 use Rattle.xfs_base.specs.Steps.{steps, still}
+use Rattle.node_slots.specs.node_tie.Asks.{needed}
 use Rattle.node_slots.specs.node_tie.ClientEvents.{SeesServing, ClientStands, GetsBody}
 use Rattle.node_slots.specs.node_tie.Sight.{SentOf}
 use Rattle.node_slots.proofs.node_tie.ClientFrames as frames
@@ -52,7 +53,7 @@ use Rattle.node_slots.proofs.node_tie.ClientServing as serving
 use Rattle.node_slots.proofs.node_tie.ClientTokens as tokens
 use Rattle.node_slots.proofs.node_tie.ClientUnsettled.{put_cases}
 use Rattle.node_slots.proofs.node_tie.ClientWrites as writing
-use Rattle.run_answers.proofs.change_law.Fresh.{Fresh}
+use Rattle.run_answers.proofs.change_law.Fresh.{AllValued, Fresh, IsNew, all_fresh}
 
 -- where no counter of a client that serves is near its end, neither is one of its log, nor of its wants
 log_room : (s : Serving) → serving_has_room s ≡ true → has_room s.log.end.seq ≡ true
@@ -69,6 +70,10 @@ want_room s room =
 no_value : (o : Option (Option (List ℕ))) → is_none o ≡ true → is_some o ≡ true → ⊥
 no_value None none some = contrary some
 no_value (Some v) none some = contrary none
+
+-- nothing is below itself
+below_itself : (n : ℕ) → nat_lt n n ≡ false
+below_itself n = grind (arith, nat_tests)
 
 module _ (members part limit c : ℕ) (small : part < slot_count) (pos : 0 < c) (less : c < members) (n : Net) (s : Serving) (sees : SeesServing false part c n s)
     (h : ClientStands part limit c n (Serves s)) (room : serving_has_room s ≡ true) (versions : BlockId → ℕ) where
@@ -90,12 +95,21 @@ module _ (members part limit c : ℕ) (small : part < slot_count) (pos : 0 < c) 
   here : At n s
   here = begins.here
 
-  -- what is seen so has a value of all that it holds
-  valued : (d : Done) → Goes d → Fresh versions d.state
-  valued d g b held none = absurd (no_value (held_at d.state b).value none ((g.stands.bears.held b).0 held))
+  abbrev pub IsFresh : Serving → Type 0
+  IsFresh t = Fresh versions (needed s.call) t
 
-  pub now_fresh : Fresh versions s
-  now_fresh b held none = absurd (no_value (held_at s b).value none (sees.valued b held))
+  -- what is seen so has a value of all that it holds
+  whole : (d : Done) → Goes d → AllValued d.state
+  whole d g b held none = no_value (held_at d.state b).value none ((g.stands.bears.held b).0 held)
+
+  valued : (d : Done) → Goes d → IsFresh d.state
+  valued d g = all_fresh versions (needed s.call) d.state (whole d g)
+
+  pub now_whole : AllValued s
+  now_whole b held none = no_value (held_at s b).value none (sees.valued b held)
+
+  now_fresh : IsFresh s
+  now_fresh = all_fresh versions (needed s.call) s now_whole
 
   still_so : Goes (still s)
   still_so = frames.goes_still false members part limit c life 0 highest n s here
@@ -121,8 +135,8 @@ module _ (members part limit c : ℕ) (small : part < slot_count) (pos : 0 < c) 
       (writing.ticks_so false members part limit c life 0 highest pos less o w.state i)
       (λ x y. y) (tokens.plain_pushes_all part c life l.state.managers l.state.feed)))
 
-  pub tick_fresh : Fresh versions (on_tick s).state
-  tick_fresh = valued (on_tick s) ticks
+  pub tick_whole : AllValued (on_tick s).state
+  tick_whole = whole (on_tick s) ticks
 
   -- ---- a grant
 
@@ -153,15 +167,16 @@ module _ (members part limit c : ℕ) (small : part < slot_count) (pos : 0 < c) 
       abbrev owner : Serving
       owner = ends_reading (record s { tokens = granted.state })
 
-      owner_fresh : Fresh versions owner
+      owner_fresh : IsFresh owner
       unfolding client.on_granted
       owner_fresh =
           by_test (λ (d : client.Done). (b : BlockId) → is_held (held_of d.state.blocks b).mode ≡ true → is_none (held_of d.state.blocks b).value ≡ true
-          → (held_of d.state.blocks b).ver ≡ versions b) (client.accepts s.tokens block stamp inc req Own)
+          → IsNew versions (needed s.call) b (held_of d.state.blocks b)) (client.accepts s.tokens block stamp inc req Own)
           (record { state = with_held s.tokens block (take_grant (held_of s.tokens.blocks block) stamp Own entry); outs = client.grant_next block Own entry.place ∷ [] })
           (still s.tokens)
-          (λ _. put_cases (λ b g. is_held g.mode ≡ true → is_none g.value ≡ true → g.ver ≡ versions b) block
-          (take_grant (held_of s.tokens.blocks block) stamp Own entry) s.tokens.blocks (λ held none. newest) (λ b other. now_fresh b))
+          (λ _. put_cases (λ b g. is_held g.mode ≡ true → is_none g.value ≡ true → IsNew versions (needed s.call) b g) block
+          (take_grant (held_of s.tokens.blocks block) stamp Own entry) s.tokens.blocks (λ held none. record { ver = newest; clean = below_itself entry.ver; needed = call_needs s h.asks block stamp inc req Own taken })
+          (λ b other. now_fresh b))
           (λ none. contrary (sym none ∙ taken))
 
       -- it stays out of the cache
@@ -169,11 +184,11 @@ module _ (members part limit c : ℕ) (small : part < slot_count) (pos : 0 < c) 
       unfolding note_copy
       uncached = ap (λ t. cond t (note_clean owner block) owner) (ap (λ (g : Held). same_mode g.mode Copy) (owned_so s.tokens block stamp inc req entry taken).known)
 
-      owns_so : Fresh versions (hand s (input.Granted block stamp inc req Own entry)).state
+      owns_so : IsFresh (hand s (input.Granted block stamp inc req Own entry)).state
       unfolding hand serving_follow follow_one
       owns_so =
-          subst (λ outs. Fresh versions (steps follow_one owner outs).state) (sym (owned_so s.tokens block stamp inc req entry taken).outs_are)
-          (subst (λ t. Fresh versions t) (sym uncached) owner_fresh)
+          subst (λ outs. IsFresh (steps follow_one owner outs).state) (sym (owned_so s.tokens block stamp inc req entry taken).outs_are)
+          (subst (λ t. IsFresh t) (sym uncached) owner_fresh)
 
     -- what is known of an accepted grant to own
     abbrev pub KnowsGrant : Type 0
@@ -181,14 +196,14 @@ module _ (members part limit c : ℕ) (small : part < slot_count) (pos : 0 < c) 
         → may_write (held_of (client.on_granted s.tokens block stamp inc req Own entry).state.blocks block) ≡ true → entry.ver ≡ versions block
 
     granted_so : (mode : Mode) → SentOf part n.sent block (GrantSent c block stamp inc req mode entry) → (mode ≡ Own → KnowsGrant)
-        → (is_own mode && not (has_long_room entry.ver)) ≡ false → Fresh versions (hand s (input.Granted block stamp inc req mode entry)).state
+        → (is_own mode && not (has_long_room entry.ver)) ≡ false → IsFresh (hand s (input.Granted block stamp inc req mode entry)).state
     granted_so Copy sent knows low = valued (hand s (input.Granted block stamp inc req Copy entry)) (copy_so sent)
     granted_so Own sent knows low = by_accepts (client.accepts s.tokens block stamp inc req Own) refl
       where
         is_below : (ver : ℕ) → not (has_long_room ver) ≡ false → nat_lt ver u64_end ≡ true
         is_below ver r = grind (arith, nat_tests)
 
-        by_accepts : (t : Bool) → client.accepts s.tokens block stamp inc req Own ≡ t → Fresh versions (hand s (input.Granted block stamp inc req Own entry)).state
+        by_accepts : (t : Bool) → client.accepts s.tokens block stamp inc req Own ≡ t → IsFresh (hand s (input.Granted block stamp inc req Own entry)).state
         by_accepts true fact =
             owns_so fact
             (knows refl (is_below entry.ver low) fact
@@ -197,7 +212,7 @@ module _ (members part limit c : ℕ) (small : part < slot_count) (pos : 0 < c) 
     granted_so Nothing sent knows low = by_accepts (client.accepts s.tokens block stamp inc req Nothing) refl
       where
         by_accepts : (t : Bool) → client.accepts s.tokens block stamp inc req Nothing ≡ t
-            → Fresh versions (hand s (input.Granted block stamp inc req Nothing entry)).state
+            → IsFresh (hand s (input.Granted block stamp inc req Nothing entry)).state
         by_accepts true fact = absurd (no_call_needs s.call block (call_needs s h.asks block stamp inc req Nothing fact))
         by_accepts false fact = valued (hand s (input.Granted block stamp inc req Nothing entry)) (refused_so Nothing fact)
 
@@ -207,16 +222,16 @@ module _ (members part limit c : ℕ) (small : part < slot_count) (pos : 0 < c) 
   KnowsBody _ = Unit {0}
 
   grant_fresh : (g : Grant) → SentOf part n.sent g.block (GrantSent c g.block g.stamp g.inc g.req g.mode g.entry)
-      → (g.mode ≡ Own → KnowsGrant g.block g.stamp g.inc g.req g.entry) → Fresh versions (on_grant s g).state
+      → (g.mode ≡ Own → KnowsGrant g.block g.stamp g.inc g.req g.entry) → IsFresh (on_grant s g).state
   unfolding on_grant
   grant_fresh g sent knows =
-      by_test (λ (d : Done). Fresh versions d.state) (is_own g.mode && not (has_long_room g.entry.ver)) (still s)
+      by_test (λ (d : Done). IsFresh d.state) (is_own g.mode && not (has_long_room g.entry.ver)) (still s)
       (hand s (input.Granted g.block g.stamp g.inc g.req g.mode g.entry)) (λ _. now_fresh)
       (λ low. granted_so g.block g.stamp g.inc g.req g.entry g.mode sent knows low)
 
   -- ---- any packet
 
-  body_fresh : (p : Packet) (m : Body) → GetsBody part limit c n (Serves s) m → KnowsBody m → Fresh versions (take_body s p.from m).state
+  body_fresh : (p : Packet) (m : Body) → GetsBody part limit c n (Serves s) m → KnowsBody m → IsFresh (take_body s p.from m).state
   body_fresh p (body.Grant m) gets knows = grant_fresh m gets knows
   body_fresh p (body.Supply m) gets knows = valued (on_supply s m) (hearing.on_supply_so false members part limit c life 0 highest pos less n s m here gets)
   body_fresh p (body.Forward m) gets knows = valued (on_forward s m) (hearing.on_forward_so false members part limit c life 0 highest pos less n s m here gets)
@@ -233,9 +248,9 @@ module _ (members part limit c : ℕ) (small : part < slot_count) (pos : 0 < c) 
       valued (on_welcome s m) (promising.on_welcome_so false members part limit c life 0 highest small pos less n s m gets.0 here begins.more)
   body_fresh p _ gets knows = now_fresh
 
-  pub packet_fresh : (p : Packet) → GetsBody part limit c n (Serves s) p.body → KnowsBody p.body → Fresh versions (serving_take s p).state
+  pub packet_fresh : (p : Packet) → GetsBody part limit c n (Serves s) p.body → KnowsBody p.body → IsFresh (serving_take s p).state
   unfolding serving_take
   packet_fresh p gets knows =
-      by_test (λ (d : Done). Fresh versions d.state) (names_known_groups s.maps p.body) (take_body s p.from p.body) (asks_for_maps s)
+      by_test (λ (d : Done). IsFresh d.state) (names_known_groups s.maps p.body) (take_body s p.from p.body) (asks_for_maps s)
       (λ _. body_fresh p p.body gets knows)
       (λ _. valued (asks_for_maps s) (hearing.asks_for_maps_so false members part limit c life 0 highest pos less n s here))

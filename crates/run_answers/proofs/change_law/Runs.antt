@@ -1,298 +1,54 @@
--- In every run the calls of clients find the versions that blocks have, up to the first doubtful restart.
-use Rattle.std.proofs.Common.{◌≡◌, ◌⊎◌, ◌+◌, ◌<◌, ◌&&◌, ℕ, suc, true, false, cond, List, [], ◌∷◌, ◌++◌, drop, length, slice_get, Option, Some, None, is_some, nat_lt, inl, inr, refl, sym, ap, subst, ◌∙◌, arith}
+-- In every run the calls of clients find the versions that blocks have, and what they name is not above, up to the first doubtful restart.
+use Rattle.std.proofs.Common.{◌≡◌, ◌⊎◌, ℕ, suc, List, [], ◌∷◌, ◌++◌, drop, length, slice_get, Option, Some, None, inl, inr, refl, sym, ap, subst, ◌∙◌, arith, zero, slice_set}
 use Rattle.std.proofs.Math.Seq.{drop-length}
 use Rattle.std.specs.List.{AllByRecursion}
+use Rattle.client_node.specs.Phases.{client_step, lasting_of}
 use Rattle.client_node.specs.declared.client.Client.{Client}
 use Rattle.client_node.specs.declared.phase.Phase.{Phase}
-use Rattle.client_node.specs.declared.phase.Phase.TheVariants.{Down, Opening, Serving as Serves}
-use Rattle.client_node.specs.Phases.{client_has_room, client_step, lasting_of, phase_has_room}
-use Rattle.client_node.specs.Room.{serving_has_room}
-use Rattle.client_serving.specs.declared.serving.Serving.{Serving}
-use Rattle.client_serving.specs.Packets.{serving_take}
 use Rattle.core_world.specs.AnyNode.{any_start, any_step}
-use Rattle.core_world.specs.declared.any_node.AnyNode.{AnyNode}
 use Rattle.core_world.specs.declared.any_node.AnyNode.TheVariants as any
-use Rattle.headline.specs.Calls.{call_in, held_in, of_items, writes_of}
+use Rattle.core_world.specs.declared.any_node.AnyNode.{AnyNode}
+use Rattle.headline.specs.Calls.{call_in, of_items, IsClients}
 use Rattle.headline.specs.Moments.{acts_in, moment, node_in, node_named}
-use Rattle.headline.specs.Owners.{tokens_at, tokens_in, tokens_of}
 use Rattle.headline.specs.Restarts.{NoDoubtfulRestart}
-use Rattle.headline.specs.Updates.{versions_behind}
-use Rattle.headline.specs.Versions.{HoldersAreNewestThroughout, IsNewest, history_at}
-use Rattle.node_base.specs.Room.{has_room}
 use Rattle.node_base.specs.Setups.{IsSetup}
-use Rattle.node_slots.specs.node_tie.ClientEvents.{ClientAgrees, ClientStands, GetsBody}
-use Rattle.node_slots.specs.node_tie.RegistryEvents.{RegistrySound}
-use Rattle.node_slots.specs.node_tie.Sight.{GrantSeen}
-use Rattle.run_answers.proofs.change_law.Arriving as arriving
-use Rattle.run_answers.proofs.change_law.Finding.{AreNewest, finds, none_returns, versions_then, walk_none}
-use Rattle.run_answers.proofs.change_law.Fresh.{Fresh}
-use Rattle.run_answers.proofs.change_law.Granted.{granted_is_newest}
-use Rattle.run_answers.proofs.change_law.Turns.{Freshes, Walks, turned}
-use Rattle.run_answers.proofs.change_law.Turns.Walks.{On_it, Starts, Stays}
-use Rattle.run_answers.proofs.linear_law.Histories.{IsNoReturn}
+use Rattle.run_answers.proofs.act_law.Runs.{moment_first, moment_past}
+use Rattle.run_answers.proofs.change_law.Finding.{LastsBehind}
+use Rattle.run_answers.proofs.change_law.Keeping.{calls_found, other_lasts}
+use Rattle.run_answers.proofs.change_law.Lasting.{IsNoFall, Lasts, acts_last}
+use Rattle.run_answers.proofs.change_law.Naming.{OpenKnows, open_more}
+use Rattle.run_answers.proofs.change_law.Stepping.{Below, StepsIn, one_client, one_node}
 use Rattle.run_answers.proofs.number_law.Acting.{acts_taken_in, node_behind}
-use Rattle.run_answers.proofs.once_law.Runs.{Known, node_known}
-use Rattle.run_answers.proofs.own_law.Runs.{runs_act, sound_at}
-use Rattle.headline.specs.Changes.{CallsFind}
-use Rattle.headline.specs.Changes.CallsFind.{GoesOn, Begins, Rests}
+use Rattle.run_answers.proofs.once_law.Runs.{node_known}
+use Rattle.run_answers.proofs.own_law.Others.{others_act}
 use Rattle.run_answers.specs.change_law.Changes.{EachRunsCallsFindVersions}
-use Rattle.run_laws.proofs.world_law.Gets.{client_gets, grant_told}
-use Rattle.run_laws.proofs.world_law.Laws as world
-use Rattle.run_laws.proofs.world_law.Places.{behind}
-use Rattle.run_laws.proofs.world_law.RegistryTurns.{slot_below}
+use Rattle.headline.specs.Changes.CallsFind.{Rests}
+use Rattle.headline.specs.Changes.{CallsFind}
+use Rattle.run_answers.specs.own_law.Others.{IsNoClient}
+use Rattle.run_laws.proofs.world_law.Everyone.{everyone_so}
+use Rattle.run_laws.proofs.world_law.Start.{first_stands}
 use Rattle.run_laws.proofs.world_law.Turning.{next_cluster}
-use Rattle.run_laws.proofs.world_law.Turns.{delivered_fact}
 use Rattle.run_laws.proofs.world_reads.Taking.{NothingHappens, Took, moment_next, takes_or_not}
-use Rattle.run_laws.proofs.world_reads.TurnRun.{may_at, moment_cluster}
-use Rattle.run_laws.specs.world_law.Fallen.{EveryRunHasFallsApart}
-use Rattle.run_laws.specs.world_law.Standing.{Fact, Scene, SentBy, Stands, epoch_now, members}
-use Rattle.run_laws.specs.world_reads.Holders.{EveryRunsHoldersAreNewest}
-use Rattle.run_laws.specs.world_reads.Joint.{Joint}
-use Rattle.run_laws.specs.world_reads.LoggedRuns.{LoggedRun, logged_run}
-use Rattle.run_laws.specs.world_reads.Moments.{EveryRunStands}
-use Rattle.run_laws.specs.world_reads.TokensBelow.{BlocksMakeLegal}
-use Rattle.token_client.specs.Held.{may_write}
-use Rattle.token_client.specs.State.{TokensState, held_of}
-use Rattle.token_client.specs.Transition.{accepts, on_granted}
-use Rattle.token_law.specs.Laws.{ActsAreLegal, IsClient}
-use Rattle.token_law.specs.Net.Packet.{GrantSent}
-use Rattle.token_protocol.specs.Basics.{In}
-use Rattle.version_model.specs.declared.act.Act.{Act}
+use Rattle.version_model.proofs.Onward.{history_through}
+use Rattle.version_model.specs.Effects.{history_after}
+use Rattle.version_model.specs.History.{History, nothing_yet}
 use Rattle.version_model.specs.declared.act.Act.TheVariants as act
-use Rattle.wire_msg.specs.declared.body.Body.{Body}
-use Rattle.wire_msg.specs.declared.body.Body.TheVariants as body
-use Rattle.wire_msg.specs.declared.packet.Do.TheVariants.{Deliver}
-use Rattle.wire_msg.specs.declared.packet.Packet.{Packet}
-use Rattle.wire_msg.specs.declared.tokens.Grant.{Grant}
+use Rattle.version_model.specs.declared.act.Act.{Act}
+use Rattle.version_model.specs.declared.work.Work.{Work}
 use Rattle.world_base.specs.Cluster.{cluster_of, place_of}
-use Rattle.world_base.specs.declared.cluster.Cluster.{Cluster}
+use Rattle.world_base.specs.Events.{node_of, what_of}
+use Rattle.world_base.specs.Items.{items_of}
+use Rattle.world_base.specs.NextWorld.{next_world, start_world}
+use Rattle.world_base.specs.Runs.{IsRun}
 use Rattle.world_base.specs.declared.estate.Estate.{Estate}
 use Rattle.world_base.specs.declared.event.Event.{Event}
 use Rattle.world_base.specs.declared.world.World.{World}
-use Rattle.world_base.specs.Events.{node_of, what_of}
-use Rattle.world_base.specs.NextWorld.{next_world, start_world}
-use Rattle.world_base.specs.Runs.{IsRun, MayHappen}
-use Rattle.xfs_base.proofs.Booleans.{and_second, contrary, equal_itself}
-use Rattle.xfs_base.specs.Blocks.{same_block, slot_of}
 use Rattle.xfs_base.specs.declared.block.BlockId.{BlockId}
-use Rattle.xfs_base.specs.declared.node.NodeId.{NodeId}
 use Rattle.xfs_base.specs.declared.node.NodeId.TheVariants as nodes
-use Rattle.xfs_base.specs.declared.token.Mode.{Mode}
-use Rattle.xfs_base.specs.declared.token.Mode.TheVariants.{Own}
-use Rattle.xfs_base.specs.Limits.{slot_count, u64_end}
+use Rattle.xfs_base.specs.declared.node.NodeId.{NodeId}
 
--- the laws that it stands on
-pub record Below : Type 0 where
-  pub stands : EveryRunStands
-  pub legal : ActsAreLegal
-  pub blocks : BlocksMakeLegal
-  pub nodes : world.NodeLaws
-  pub apart : EveryRunHasFallsApart
-
-one_node : (a b : AnyNode) → Some a ≡ Some b → a ≡ b
-one_node a b same = cc
-
-one_client : (a b : Client) → any.Client a ≡ any.Client b → a ≡ b
-one_client a b same = cc
-
-has_value : (o : Option (Option (List ℕ))) → is_some o ≡ true → (value : Option (List ℕ)) × (o ≡ Some value)
-has_value None some = contrary some
-has_value (Some v) some = (v, refl)
-
--- the client takes its step in this event
-record StepsIn (e : Estate AnyNode) (count : ℕ) (event : Event) (c : Client) : Type 0 where
-  there : node_named (moment e count) (node_of event) ≡ Some (any.Client c)
-  behind : node_named (moment e (suc count)) (node_of event) ≡ Some (any.Client (client_step c (what_of event)).node)
-  grown : (moment e (suc count)).acts ≡ (moment e count).acts ++ (client_step c (what_of event)).acts
-
-module _ (below : Below) (e : Estate AnyNode) (holders : HoldersAreNewestThroughout e) (setup : IsSetup e.script.setup)
-    (run : IsRun any_step any_start e.script e.events e.world) (count : ℕ) (event : Event) (happens : slice_get e.events count ≡ Some event)
-    (undoubted : NoDoubtfulRestart e (suc count)) (c : Client) (steps : StepsIn e count event c) where
-  abbrev w : World AnyNode
-  w = moment e count
-
-  abbrev k : Cluster
-  k = cluster_of e.script.setup
-
-  abbrev number : ℕ
-  number = (lasting_of c.phase).number
-
-  abbrev versions : BlockId → ℕ
-  versions b = versions_behind w.acts b
-
-  known : Known e (node_of event) (any.Client c)
-  known = node_known e count (node_of event) (any.Client c) steps.there
-
-  here : node_in w.nodes (place_of k (nodes.Client number)) ≡ Some (any.Client c)
-  here =
-      subst (λ (cl : Cluster). node_in w.nodes (place_of cl (nodes.Client number)) ≡ Some (any.Client c)) (moment_cluster e count)
-      (ap (node_named w) known.named ∙ steps.there)
-
-  -- it is one of the clients
-  member : (part : ℕ) → IsClient (members k part) number
-  member part = by (place_of k (nodes.Client number)) refl
-    where
-      by : (o : Option ℕ) → place_of k (nodes.Client number) ≡ o → IsClient (members k part) number
-      by None at = (let clash : None ≡ Some (any.Client c) = sym (ap (node_in w.nodes) at) ∙ here in absurd (cc))
-      by (Some p) at = (let b = behind 0 k.clients number p at in record { some = b.some; within = (let limit = b.within in omega arith) })
-
-  may : MayHappen w event
-  may = may_at e.events count event (start_world any_start e.script) e.world run happens
-
-  undoubted_before : NoDoubtfulRestart e count
-  undoubted_before r n less = undoubted r n (omega (arith, less))
-
-  abbrev logged : LoggedRun
-  logged =
-      let base = below.stands.setting.0 in
-      let lines = below.stands.lines base e setup run in
-      logged_run base e lines (below.stands.texts base e setup lines)
-
-  joints : (part : ℕ) → part < slot_count → Joint logged part count
-  joints =
-      let base = below.stands.setting.0 in
-      let lines = below.stands.lines base e setup run in
-      (below.stands.moments base below.stands.setting.1 e setup run lines (below.stands.texts base e setup lines) count undoubted_before).joints
-
-  -- ---- a grant to own
-
-  module _ (q : Packet) (comes : what_of event ≡ Deliver q) (s : Serving) (is : Serves s ≡ c.phase) where
-    its_tokens : tokens_of (node_in w.nodes (place_of k (nodes.Client number))) ≡ Some s.tokens
-    its_tokens = ap tokens_of here ∙ ap tokens_in (sym is)
-
-    grant_newest : (g : Grant) → body.Grant g ≡ q.body → g.mode ≡ Own
-        → accepts s.tokens g.block g.stamp g.inc g.req Own ≡ true → nat_lt g.entry.ver u64_end ≡ true
-        → may_write (held_of (on_granted s.tokens g.block g.stamp g.inc g.req Own g.entry).state.blocks g.block) ≡ true → g.entry.ver ≡ versions g.block
-    grant_newest g same own taken low able =
-        granted_is_newest below.legal below.blocks below.nodes logged count (below.apart e setup run count) joints g.block number there.client there.up g.stamp g.inc
-        g.req g.entry sent
-        (subst (λ (t : TokensState). accepts t g.block g.stamp g.inc g.req Own ≡ true) (sym there.tokens) taken) low
-        (subst (λ (t : TokensState). may_write (held_of (on_granted t g.block g.stamp g.inc g.req Own g.entry).state.blocks g.block) ≡ true) (sym there.tokens) able)
-      where
-        part : ℕ
-        part = slot_of g.block.ino.0
-
-        joint : Joint logged part count
-        joint = joints part (slot_below g.block.ino.0)
-
-        there : world.ServesThere below.nodes k part (slot_below g.block.ino.0) joint.tok number s.tokens
-        there = world.serves_there below.nodes k part (slot_below g.block.ino.0) w.nodes w.sent w.acts joint.tok joint.tokens_stand number s.tokens its_tokens
-
-        fact : Fact k part joint.tok q × (q.to ≡ node_of event)
-        fact = delivered_fact below.nodes true k part (slot_below g.block.ino.0) w.sent joint.tok joint.tokens_stand.facts w refl event may q comes
-
-        told : SentBy k part joint.tok q.from q.to (body.Grant g)
-        told = subst (SentBy k part joint.tok q.from q.to) (sym same) fact.0
-
-        seen : GrantSeen part joint.tok.net.sent (nodes.Client number) g
-        seen = subst (λ (n : NodeId). GrantSeen part joint.tok.net.sent n g) (fact.1 ∙ sym known.named) (grant_told k part joint.tok q.from q.to g told)
-
-        sent : In (GrantSent number g.block g.stamp g.inc g.req Own g.entry) joint.tok.net.sent
-        sent = subst (λ (m : Mode). In (GrantSent number g.block g.stamp g.inc g.req m g.entry) joint.tok.net.sent) own (seen (equal_itself part))
-
-  -- ---- what is known of grants
-
-  first_slot : 0 < slot_count
-  first_slot = omega arith
-
-  abbrev scene : Scene
-  scene = (world.front below.nodes e setup run count 0 first_slot).1.0
-
-  stands : Stands false k 0 w.nodes w.sent w.acts RegistrySound scene
-  stands = (world.front below.nodes e setup run count 0 first_slot).1.1
-
-  its_scene : scene.client number ≡ c
-  its_scene =
-      one_client (scene.client number) c (one_node (any.Client (scene.client number)) (any.Client c)
-      (sym (stands.placed.clients number (member 0).some (member 0).within) ∙ here))
-
-  module _ (s : Serving) (is : Serves s ≡ c.phase) (room : client_has_room c ≡ true) where
-    same : (scene.client number).phase ≡ Serves s
-    same = ap (λ (x : Client). x.phase) its_scene ∙ sym is
-
-    agreed : ClientAgrees false 0 number scene.net (Serves s) × ClientStands 0 (epoch_now k 0 scene) number scene.net (Serves s)
-    agreed =
-        subst (λ (p : Phase). ClientAgrees false 0 number scene.net p × ClientStands 0 (epoch_now k 0 scene) number scene.net p) same
-        (stands.clients number (member 0).some (member 0).within)
-
-    has : serving_has_room s ≡ true
-    has =
-        subst (λ (p : Phase). phase_has_room p ≡ true) (sym is)
-        (and_second (has_room (lasting_of c.phase).questions.last) (phase_has_room c.phase)
-        (and_second (has_room (lasting_of c.phase).inc) (has_room (lasting_of c.phase).questions.last && phase_has_room c.phase) room))
-
-    packet_fresh : (q : Packet) → what_of event ≡ Deliver q → Fresh versions (serving_take s q).state
-    packet_fresh q comes =
-        arriving.packet_fresh (members k 0) 0 (epoch_now k 0 scene) number first_slot (member 0).some (member 0).within scene.net s agreed.0 agreed.1 has versions q
-        (subst (λ (p : Phase). GetsBody 0 (epoch_now k 0 scene) number scene.net p q.body) same gets) (knows q.body refl)
-      where
-        fact : Fact k 0 scene q × (q.to ≡ node_of event)
-        fact = delivered_fact below.nodes false k 0 first_slot w.sent scene stands.facts w refl event may q comes
-
-        gets : GetsBody 0 (epoch_now k 0 scene) number scene.net (scene.client number).phase q.body
-        gets = (client_gets k 0 scene false number q fact.0 (fact.1 ∙ sym known.named) tt).brings
-
-        Knows : Body → Type 0
-        Knows m = arriving.KnowsBody (members k 0) 0 (epoch_now k 0 scene) number first_slot (member 0).some (member 0).within scene.net s agreed.0 agreed.1 has versions m
-
-        knows : (m : Body) → m ≡ q.body → Knows m
-        knows (body.Grant g) its = λ own low taken able. grant_newest q comes s is g its own taken low able
-        knows _ its = tt
-
-    freshes : Freshes versions s (what_of event)
-    freshes = record {
-      now = arriving.now_fresh (members k 0) 0 (epoch_now k 0 scene) number first_slot (member 0).some (member 0).within scene.net s agreed.0 agreed.1 has versions;
-      tick = arriving.tick_fresh (members k 0) 0 (epoch_now k 0 scene) number first_slot (member 0).some (member 0).within scene.net s agreed.0 agreed.1 has versions;
-      packet = packet_fresh;
-    }
-
-  -- ---- what is held behind the event
-
-  abbrev after : Phase
-  after = (client_step c (what_of event)).node.phase
-
-  abbrev acts : List Act
-  acts = (client_step c (what_of event)).acts
-
-  writes_same : (b : BlockId) (xs : List Act) → writes_of b (of_items xs) ≡ writes_of b xs
-  writes_same b [] = refl
-  writes_same b (act.Filed seg ∷ xs) = writes_same b xs
-  writes_same b (act.Lost node seg ∷ xs) = writes_same b xs
-  writes_same b (act.Wrote client block value ∷ xs) = ap (λ (n : ℕ). cond (same_block block b) (suc n) n) (writes_same b xs)
-  writes_same b (_ ∷ xs) = writes_same b xs
-
-  -- where none of its acts is that a client is back
-  newest : (q : Phase) → q ≡ after → AllByRecursion IsNoReturn acts → AreNewest versions (held_in q) (of_items acts)
-  newest (Down l) is none b held valued = contrary held
-  newest (Opening l o) is none b held valued = contrary held
-  newest (Serves s) is none b held valued =
-      let v = has_value (held_of s.tokens.blocks b).value valued in
-      let there : tokens_at (moment e (suc count)) number ≡ Some s.tokens =
-      ap (λ n. tokens_of (node_named (moment e (suc count)) n)) known.named ∙ (ap tokens_of steps.behind ∙ ap tokens_in (sym is)) in
-      let is_newest : IsNewest (history_at (moment e (suc count)) b) (held_of s.tokens.blocks b).ver v.0 = holders (suc count) undoubted b number s.tokens v.0 there held v.1 in
-      let ver : (held_of s.tokens.blocks b).ver ≡ versions_behind (moment e (suc count)).acts b = is_newest.newest in
-      let all : versions_behind (moment e (suc count)).acts b ≡ versions b + writes_of b acts =
-      ap (λ (xs : List Act). versions_behind xs b) steps.grown ∙ versions_then w.acts acts b none in
-      let among : writes_of b (of_items acts) ≡ writes_of b acts = writes_same b acts in
-      omega arith
-
-  -- ---- what calls find
-
-  behind_walk : (xs : List Act) → xs ≡ of_items acts → AllByRecursion IsNoReturn xs → AreNewest versions (held_in after) xs
-  behind_walk xs same none =
-      subst (AreNewest versions (held_in after)) (sym same) (newest after refl (none_returns acts (subst (AllByRecursion IsNoReturn) same none)))
-
-  found : (xs : List Act) → xs ≡ of_items acts → Walks number versions c.phase (what_of event) xs after → CallsFind number w.acts c.phase (what_of event) xs after
-  found xs are (On_it call is walk) = GoesOn call is (finds number (held_in after) walk w.acts (λ b. refl) (behind_walk xs are (walk_none walk)))
-  found xs are (Starts n wanted going is b free made walk) =
-      Begins n wanted going is b free made (finds number (held_in after) walk w.acts (λ b. refl) (behind_walk xs are (walk_none walk)))
-  found xs are (Stays none ends calls) = Rests none ends calls
-
-  calls_find : CallsFind number w.acts c.phase (what_of event) (of_items acts) after
-  calls_find =
-      found (of_items acts) refl
-      (turned number versions c (what_of event) refl (sound_at e count (node_of event) (any.Client c) steps.there) freshes
-      ((runs_act e).events count event happens c steps.there).acts)
+one_number : (a b : ℕ) → nodes.Client a ≡ nodes.Client b → a ≡ b
+one_number a b same = cc
 
 -- ---- in each event
 
@@ -350,7 +106,160 @@ module _ (e : Estate AnyNode) (count : ℕ) (event : Event) (happens : slice_get
           let took : Took now event (any.Client c) = subst (Took now event) is turn.1 in
           step_found took (finds (steps_in took))
 
-pub each_runs_calls_find_versions : Below → EveryRunsHoldersAreNewest → EachRunsCallsFindVersions
-each_runs_calls_find_versions below holders e setup run count event happens undoubted c d there behind_it =
+-- ---- what open calls have read lasts
+
+-- what the open call of a node has read lasts behind these acts
+abbrev Reads : List Act → AnyNode → Type 0
+Reads acts (any.Client c) = OpenKnows (LastsBehind acts (lasting_of c.phase).number) (call_in c.phase)
+Reads acts _ = Unit {0}
+
+abbrev WorldReads : World AnyNode → Type 0
+WorldReads w = (name : NodeId) (x : AnyNode) → node_named w name ≡ Some x → Reads w.acts x
+
+all_calm : (acts : List Act) → AllByRecursion (λ a. IsClients a → ⊥) acts → AllByRecursion IsNoFall acts
+all_calm [] none = tt
+all_calm (act.Fell client flight falls ∷ acts) none = absurd (none.0 tt)
+all_calm (act.Wrote client block value ∷ acts) none = (tt, all_calm acts none.1)
+all_calm (act.Read client block ver value ∷ acts) none = (tt, all_calm acts none.1)
+all_calm (act.Synced client ∷ acts) none = (tt, all_calm acts none.1)
+all_calm (act.Back client chain ∷ acts) none = (tt, all_calm acts none.1)
+all_calm (act.Lost node seg ∷ acts) none = (tt, all_calm acts none.1)
+all_calm (act.Filed seg ∷ acts) none = (tt, all_calm acts none.1)
+all_calm (act.Dropped seg ∷ acts) none = (tt, all_calm acts none.1)
+all_calm (act.Answered node item a ∷ acts) none = (tt, all_calm acts none.1)
+
+module _ (below : Below) (e : Estate AnyNode) (setup : IsSetup e.script.setup) (run : IsRun any_step any_start e.script e.events e.world) where
+  abbrev AllRead : ℕ → Type 0
+  AllRead count = WorldReads (moment e count)
+
+  module _ (count : ℕ) (event : Event) (happens : slice_get e.events count ≡ Some event) (undoubted : NoDoubtfulRestart e (suc count)) (all : AllRead count) where
+    abbrev w : World AnyNode
+    w = moment e count
+
+    abbrev next : World AnyNode
+    next = moment e (suc count)
+
+    -- where nothing happens
+    none_read : NothingHappens w event → AllRead (suc count)
+    none_read none name x fact =
+        subst (λ (acts : List Act). Reads acts x) (sym (ap (λ (u : World AnyNode). u.acts) (moment_next e count event happens) ∙ none.acts))
+        (all name x (sym same ∙ fact))
+      where
+        same : node_named next name ≡ node_named w name
+        same =
+            ap (λ (u : World AnyNode). node_named u name) (moment_next e count event happens)
+            ∙ (ap (λ k. node_in (next_world any_step w event).nodes (place_of k name)) (next_cluster any_step w event)
+            ∙ ap (λ nodes. node_in nodes (place_of w.cluster name)) none.nodes)
+
+    -- where a node takes its step
+    module _ (y : AnyNode) (took : Took w event y) where
+      there : node_named w (node_of event) ≡ Some y
+      there = ap (node_in w.nodes) took.placed ∙ took.stands
+
+      behind : node_named next (node_of event) ≡ Some (any_step y (what_of event)).node
+      behind = node_behind e count event happens y took
+
+      grown : next.acts ≡ w.acts ++ (any_step y (what_of event)).acts
+      grown = ap (λ (u : World AnyNode). u.acts) (moment_next e count event happens) ∙ took.acts
+
+      steps_of : (c : Client) → y ≡ any.Client c → StepsIn e count event c
+      steps_of c is = record {
+        there = there ∙ ap Some is;
+        behind = behind ∙ ap (λ (x : AnyNode). Some (any_step x (what_of event)).node) is;
+        grown = grown ∙ ap (λ (x : AnyNode). w.acts ++ (any_step x (what_of event)).acts) is;
+      }
+
+      own_read : (x : AnyNode) → y ≡ x → Reads w.acts x → Reads next.acts (any_step x (what_of event)).node
+      own_read (any.Client c) is read =
+          subst (λ (n : ℕ). OpenKnows (LastsBehind next.acts n) (call_in (client_step c (what_of event)).node.phase)) (its c (steps_of c is))
+          (calls_found below e setup run count event happens undoubted c (steps_of c is) read).known
+        where
+          its : (c : Client) → StepsIn e count event c → (lasting_of c.phase).number ≡ (lasting_of (client_step c (what_of event)).node.phase).number
+          its c s =
+              one_number (lasting_of c.phase).number (lasting_of (client_step c (what_of event)).node.phase).number
+              ((node_known e count (node_of event) (any.Client c) s.there).named
+              ∙ sym (node_known e (suc count) (node_of event) (any.Client (client_step c (what_of event)).node) s.behind).named)
+      own_read (any.Manager m) is read = tt
+      own_read (any.Server v) is read = tt
+      own_read (any.Cleaner k) is read = tt
+      own_read (any.Registry r) is read = tt
+
+      -- nobody else's is taken back
+      calm_lasts : IsNoClient y → (d : ℕ) (b : BlockId) (v : ℕ) → LastsBehind w.acts d b v → LastsBehind next.acts d b v
+      calm_lasts other d b v l =
+          subst (λ (xs : List Act). LastsBehind xs d b v) (sym grown)
+          (subst (λ (h : History). Lasts h d b v) (sym (history_through w.acts (any_step y (what_of event)).acts nothing_yet))
+          (acts_last d b v (any_step y (what_of event)).acts (history_after w.acts nothing_yet)
+          (all_calm (any_step y (what_of event)).acts (others_act y (what_of event) other)) l))
+
+      lasts_on : (z : AnyNode) → y ≡ z → (d : ℕ) → (nodes.Client d ≡ node_of event → ⊥) → (b : BlockId) (v : ℕ) → LastsBehind w.acts d b v → LastsBehind next.acts d b v
+      lasts_on (any.Client c) is d apart b v l =
+          let s = steps_of c is in
+          other_lasts below e setup run count event happens undoubted c s d
+          (λ same. apart (sym (ap nodes.Client same) ∙ (node_known e count (node_of event) (any.Client c) s.there).named)) b v l
+      lasts_on (any.Manager m) is d apart b v l = calm_lasts (subst IsNoClient (sym is) tt) d b v l
+      lasts_on (any.Server u) is d apart b v l = calm_lasts (subst IsNoClient (sym is) tt) d b v l
+      lasts_on (any.Cleaner k) is d apart b v l = calm_lasts (subst IsNoClient (sym is) tt) d b v l
+      lasts_on (any.Registry r) is d apart b v l = calm_lasts (subst IsNoClient (sym is) tt) d b v l
+
+      other_read : (name : NodeId) (x : AnyNode) → (name ≡ node_of event → ⊥) → node_named w name ≡ Some x → Reads w.acts x → Reads next.acts x
+      other_read name (any.Client c) differs fact read =
+          open_more (LastsBehind w.acts (lasting_of c.phase).number) (LastsBehind next.acts (lasting_of c.phase).number)
+          (lasts_on y refl (lasting_of c.phase).number
+          (λ own. differs (sym (node_known e count name (any.Client c) fact).named ∙ own))) (call_in c.phase) read
+      other_read name (any.Manager m) differs fact read = tt
+      other_read name (any.Server v) differs fact read = tt
+      other_read name (any.Cleaner k) differs fact read = tt
+      other_read name (any.Registry r) differs fact read = tt
+
+      turn_read : AllRead (suc count)
+      turn_read name x fact =
+          everyone_so w.cluster w.nodes (node_of event) took.place took.placed y (any_step y (what_of event)).node took.stands
+          (λ n z. Reads next.acts z) (own_read y refl (all (node_of event) y there)) (λ n z differs was. other_read n z differs was (all n z was)) name x
+          (sym same ∙ fact)
+        where
+          same : node_named next name ≡ node_in (slice_set w.nodes took.place (any_step y (what_of event)).node) (place_of w.cluster name)
+          same =
+              ap (λ (u : World AnyNode). node_named u name) (moment_next e count event happens)
+              ∙ (ap (λ k. node_in (next_world any_step w event).nodes (place_of k name)) (next_cluster any_step w event)
+              ∙ ap (λ nodes. node_in nodes (place_of w.cluster name)) took.nodes)
+
+    event_read : AllRead (suc count)
+    event_read = by (takes_or_not w event)
+      where
+        by : NothingHappens w event ⊎ ((x : AnyNode) × Took w event x) → AllRead (suc count)
+        by (inl none) = none_read none
+        by (inr turn) = turn_read turn.0 turn.1
+
+  starts : (name : NodeId) (works : List Work) → Reads [] (any_start name e.script.setup works)
+  starts (nodes.Client number) works = tt
+  starts (nodes.Manager number) works = tt
+  starts (nodes.Server number) works = tt
+  starts nodes.Cleaner works = tt
+  starts nodes.Registry works = tt
+
+  start_read : WorldReads (start_world any_start e.script)
+  unfolding start_world
+  start_read name x = by (place_of (cluster_of e.script.setup) name) refl
+    where
+      by : (o : Option ℕ) → place_of (cluster_of e.script.setup) name ≡ o → node_in (start_world any_start e.script).nodes o ≡ Some x → Reads [] x
+      by None at fact = absurd cc
+      by (Some p) at fact =
+          let here : node_in (start_world any_start e.script).nodes (Some p) ≡ Some (any_start name e.script.setup (items_of e.script.lines name)) =
+          ap (node_in (start_world any_start e.script).nodes) (sym at) ∙ first_stands e.script name p at in
+          subst (Reads []) (one_node (any_start name e.script.setup (items_of e.script.lines name)) x (sym here ∙ fact))
+          (starts name (items_of e.script.lines name))
+
+  all_read : (count : ℕ) → NoDoubtfulRestart e count → AllRead count
+  all_read zero undoubted = subst WorldReads (sym (moment_first e)) start_read
+  all_read (suc count) undoubted = by (slice_get e.events count) refl (all_read count (λ r n less. undoubted r n (omega (arith, less))))
+    where
+      by : (o : Option Event) → slice_get e.events count ≡ o → AllRead count → AllRead (suc count)
+      by None fact all = subst WorldReads (sym (moment_past e count fact)) all
+      by (Some event) fact all = event_read count event fact undoubted all
+
+pub each_runs_calls_find_versions : Below → EachRunsCallsFindVersions
+each_runs_calls_find_versions below e setup run count event happens undoubted c d there behind_it =
     in_event e count event happens c d there behind_it
-    (λ steps. calls_find below e (holders e setup run) setup run count event happens undoubted c steps)
+    (λ steps. (calls_found below e setup run count event happens undoubted c steps
+    (all_read below e setup run count (λ r n less. undoubted r n (omega (arith, less))) (node_of event) (any.Client c) there)).finds)

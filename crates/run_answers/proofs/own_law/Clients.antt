@@ -78,6 +78,19 @@ one_call a b fact = cc
 no_call : (call : Call) → None ≡ Some call → ⊥
 no_call call fact = cc
 
+-- none is open
+pub not_open : (o : Option ℕ) → is_some o ≡ false → o ≡ None
+not_open None fact = refl
+not_open (Some item) fact = absurd cc
+
+-- a call that has its item is over once none is open
+pub call_over : (s : Serving) → CallHasItem (Serves s) → s.lasting.items.unanswered ≡ None → s.call ≡ None
+call_over s sound free = by s.call refl
+  where
+    by : (o : Option Call) → s.call ≡ o → o ≡ None
+    by None fact = refl
+    by (Some call) fact = (let has = sound call fact in absurd (no_item has.0 (sym free ∙ has.1)))
+
 module _ (client : ℕ) where
   abbrev me : NodeId
   me = nodes.Client client
@@ -327,18 +340,6 @@ module _ (client : ℕ) where
         turned (Serves s) Begin (record { state = Serves t; outs = Answers number a ∷ [] }) (act.Answered me number a ∷ []) refl
         (AtOnce number w a so (is_begun w e) refl (begun_open s.lasting.items)) t_sound
 
-    -- none is open
-    not_open : (o : Option ℕ) → is_some o ≡ false → o ≡ None
-    not_open None fact = refl
-    not_open (Some item) fact = absurd cc
-
-    over : s.lasting.items.unanswered ≡ None → s.call ≡ None
-    over free = by s.call refl
-      where
-        by : (o : Option Call) → s.call ≡ o → o ≡ None
-        by None fact = refl
-        by (Some call) fact = (let has = sound call fact in absurd (no_item has.0 (sym free ∙ has.1)))
-
     abbrev as_phase : Done → Went_to
     as_phase d = record { state = Serves d.state; outs = d.outs }
 
@@ -355,7 +356,7 @@ module _ (client : ℕ) where
             (Passes number w refl (is_begun w e) free made refl (begun_open s.lasting.items)) t_sound
         by (Some going) made =
             let d : Done = begin_call t number (Some going) in
-            let st : Stretched client u going d = going_runs client u going its (over free) in
+            let st : Stretched client u going d = going_runs client u going its (call_over s sound free) in
             turned (Serves s) Begin (as_phase d) (its_acts me d.outs) refl (Begins number w going refl (is_begun w e) free made
             (λ n fact. ap (λ (i : Items). i.unanswered) (st.items ∙ ap (λ (o : Option Call). items_after o u.lasting.items) fact)) (going_drains u going) st.acts)
             (stretch_sound u d.state st.items number refl)
