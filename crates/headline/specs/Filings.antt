@@ -1,21 +1,26 @@
--- What clients file while they serve: segments of their own log, of the incarnation that opened it, each of the number behind the one that they filed last.
+-- What the nodes that own a log file while they serve, clients, the cleaner and managers: segments of it, of the incarnation that opened it, each of the number
+-- behind the one that they filed last.
 use Rattle.std.specs.Prelude.{◌≡◌, ℕ, zero, suc, if◌then◌else◌, List, [], ◌∷◌, Option, Some, None, slice_get}
+use Rattle.cleaner_node.specs.CleanerEvents as cleaners
 use Rattle.client_log.specs.LogState.{LogState}
-use Rattle.client_node.specs.declared.client.Client.{Client}
-use Rattle.client_node.specs.Phases.{lasting_of}
+use Rattle.client_node.specs.Phases as clients
 use Rattle.core_world.specs.declared.any_node.AnyNode.{AnyNode}
 use Rattle.core_world.specs.declared.any_node.AnyNode.TheVariants as any
+use Rattle.manager_node.specs.declared.phase.Phase.{Phase}
+use Rattle.manager_node.specs.declared.phase.Phase.TheVariants.{Down, Waiting, Serving as Serves}
+use Rattle.manager_node.specs.Phases as managers
 use Rattle.version_model.specs.declared.act.Act.{Act}
 use Rattle.version_model.specs.declared.act.Act.TheVariants as act
 use Rattle.world_base.specs.declared.estate.Estate.{Estate}
 use Rattle.world_base.specs.declared.event.Event.{Event}
 use Rattle.world_base.specs.Events.{node_of}
-use Rattle.xfs_base.specs.declared.node.NodeId.TheVariants as nodes
+use Rattle.xfs_base.specs.declared.node.NodeId.{NodeId}
+use Rattle.xfs_base.specs.declared.segment.LogId.{LogId}
 use Rattle.xfs_base.specs.declared.segment.SegName.{SegName}
 use Rattle.xfs_base.specs.Logs.{log_of}
 use Rattle.xfs_base.specs.Nodes.{same_node}
 use Rattle.headline.specs.Moments.{acts_in, moment, node_named}
-use Rattle.headline.specs.Restarts.{clients_log}
+use Rattle.headline.specs.Restarts.{cleaners_log, clients_log}
 
 -- the number of the segment that these acts file last; where they file none, the number before
 abbrev pub filed_last : ℕ → List Act → ℕ
@@ -23,41 +28,77 @@ filed_last before [] = before
 filed_last before (act.Filed name ∷ acts) = filed_last name.seq acts
 filed_last before (_ ∷ acts) = filed_last before acts
 
--- a segment of the client's log, of this incarnation, and of the next number
-pub record IsNext (client boot before : ℕ) (name : SegName) : Type 0 where
-  pub log : name.log ≡ log_of (nodes.Client client)
+-- a segment of this log, of this incarnation, and of the next number
+pub record IsNext (own : LogId) (boot before : ℕ) (name : SegName) : Type 0 where
+  pub log : name.log ≡ own
   pub inc : name.pass.inc ≡ boot
   pub number : name.seq ≡ suc before
 
 -- each segment that these acts file is the next
-abbrev pub FilesOn : (client boot before : ℕ) → List Act → Type 0
-FilesOn client boot before [] = Unit {0}
-FilesOn client boot before (act.Filed name ∷ acts) = IsNext client boot before name × FilesOn client boot name.seq acts
-FilesOn client boot before (_ ∷ acts) = FilesOn client boot before acts
+abbrev pub FilesOn : (log : LogId) (boot before : ℕ) → List Act → Type 0
+FilesOn log boot before [] = Unit {0}
+FilesOn log boot before (act.Filed name ∷ acts) = IsNext log boot before name × FilesOn log boot name.seq acts
+FilesOn log boot before (_ ∷ acts) = FilesOn log boot before acts
 
-module _ (e : Estate AnyNode) where
-  -- the acts of the event at a place, where it is one of the client
-  abbrev pub acts_by : ℕ → ℕ → Option Event → List Act
-  acts_by client place None = []
-  acts_by client place (Some event) = if same_node (node_of event) (nodes.Client client) then acts_in (moment e place) event else []
+-- the log of a manager that serves
+abbrev pub managers_log : Phase → Option LogState
+managers_log (Down kept) = None
+managers_log (Waiting kept hello) = None
+managers_log (Serves s) = Some s.log
 
-  -- the number of the segment that the client filed last by the events before a place; 0 where it filed none
-  abbrev pub last_filed : ℕ → ℕ → ℕ
-  last_filed client zero = 0
-  last_filed client (suc place) = filed_last (last_filed client place) (acts_by client place (slice_get e.events place))
+-- the log of a node that owns one, while it serves
+abbrev pub own_log : Option AnyNode → Option LogState
+own_log None = None
+own_log (Some (any.Client node)) = clients_log node.phase
+own_log (Some (any.Manager node)) = managers_log node.phase
+own_log (Some (any.Server node)) = None
+own_log (Some (any.Cleaner node)) = cleaners_log node.phase
+own_log (Some (any.Registry node)) = None
 
-  -- before the event at a place the client is this one, and its log that, where it serves
-  abbrev pub IsAt : ℕ → ℕ → Client → Option LogState → Type 0
-  IsAt place client c log = (node_named (moment e place) (nodes.Client client) ≡ Some (any.Client c)) × (clients_log c.phase ≡ log)
+-- its incarnation
+abbrev pub own_boot : Option AnyNode → ℕ
+own_boot None = 0
+own_boot (Some (any.Client node)) = (clients.lasting_of node.phase).inc
+own_boot (Some (any.Manager node)) = (managers.lasting_of node.phase).inc
+own_boot (Some (any.Server node)) = 0
+own_boot (Some (any.Cleaner node)) = (cleaners.lasting_of node.phase).inc
+own_boot (Some (any.Registry node)) = 0
 
-  pub record ClientsFileOn : Type 0 where
-    -- in each event before which a client serves each segment that it files is the next, of the incarnation of its log
-    pub numbers : (count : ℕ) (event : Event) → slice_get e.events count ≡ Some event → (client : ℕ) → node_of event ≡ nodes.Client client → (c : Client)
-        (log : LogState) → IsAt count client c (Some log) → FilesOn client log.inc (last_filed client count) (acts_in (moment e count) event)
+-- the number behind which a node files on: that of the segment that it filed last; a manager that doesn't serve begins a new log, whose first segment is 1
+abbrev pub files_from : Option AnyNode → ℕ → ℕ
+files_from (Some (any.Manager node)) last = if managers.is_serving node.phase then last else 0
+files_from _ last = last
+
+-- what a manager files in an event before which it doesn't serve is of that new log, and of its own incarnation
+abbrev pub FilesAnew : LogId → Option AnyNode → List Act → Type 0
+FilesAnew log (Some (any.Manager node)) acts = managers_log node.phase ≡ None → FilesOn log (managers.lasting_of node.phase).inc 0 acts
+FilesAnew log _ acts = Unit {0}
+
+module _ (e : Estate AnyNode) (name : NodeId) where
+  abbrev pub at : ℕ → Option AnyNode
+  at place = node_named (moment e place) name
+
+  -- the acts of the event at a place, where it is one of the node
+  abbrev pub own_acts : ℕ → Option Event → List Act
+  own_acts place None = []
+  own_acts place (Some event) = if same_node (node_of event) name then acts_in (moment e place) event else []
+
+  -- the number of the segment that it filed last by the events before a place; 0 where it filed none
+  abbrev pub own_last : ℕ → ℕ
+  own_last zero = 0
+  own_last (suc place) = filed_last (files_from (at place) (own_last place)) (own_acts place (slice_get e.events place))
+
+  pub record FilesItsLog : Type 0 where
+    -- in each event before which it serves each segment that it files is the next, of the incarnation of its log
+    pub numbers : (count : ℕ) (event : Event) → slice_get e.events count ≡ Some event → node_of event ≡ name → (log : LogState) → own_log (at count) ≡ Some log
+        → FilesOn (log_of name) log.inc (own_last count) (acts_in (moment e count) event)
+    -- in each other event a manager files of a new log
+    pub begins : (count : ℕ) (event : Event) → slice_get e.events count ≡ Some event → node_of event ≡ name
+        → FilesAnew (log_of name) (at count) (acts_in (moment e count) event)
     -- the segment that it filed last is the end of its log, at each moment at which it serves
-    pub ends : (count client : ℕ) (c : Client) (log : LogState) → IsAt count client c (Some log) → log.end.seq ≡ last_filed client count
+    pub ends : (count : ℕ) (log : LogState) → own_log (at count) ≡ Some log → log.end.seq ≡ own_last count
     -- the incarnation of its log is its own where it comes to serve, and stays as it is while it serves
-    pub opens : (count client : ℕ) (before after : Client) (log : LogState) → IsAt count client before None → IsAt (suc count) client after (Some log)
-        → log.inc ≡ (lasting_of after.phase).inc
-    pub stays : (count client : ℕ) (before after : Client) (was log : LogState) → IsAt count client before (Some was) → IsAt (suc count) client after (Some log)
-        → log.inc ≡ was.inc
+    pub opens : (count : ℕ) (before after : AnyNode) (log : LogState) → at count ≡ Some before → at (suc count) ≡ Some after → own_log (Some before) ≡ None
+        → own_log (Some after) ≡ Some log → log.inc ≡ own_boot (Some after)
+    pub stays : (count : ℕ) (before after : AnyNode) (was log : LogState) → at count ≡ Some before → at (suc count) ≡ Some after
+        → own_log (Some before) ≡ Some was → own_log (Some after) ≡ Some log → log.inc ≡ was.inc

@@ -1,11 +1,12 @@
 -- What the nodes of a run keep inside, on which it rests what is seen of the run.
 use Rattle.core_world.specs.declared.any_node.AnyNode.{AnyNode}
 use Rattle.world_base.specs.declared.estate.Estate.{Estate}
+use Rattle.xfs_base.specs.declared.node.NodeId.{NodeId}
 use Rattle.headline.specs.Beliefs.{BelievedThroughout}
 use Rattle.headline.specs.Boots.{TheCleanerFilesOne}
 use Rattle.headline.specs.Deletions.{DeletesBelowHorizons, DropsWhatItDeletes}
 use Rattle.headline.specs.Falls.{NobodyHoldsThroughout}
-use Rattle.headline.specs.Filings.{ClientsFileOn}
+use Rattle.headline.specs.Filings.{FilesItsLog}
 use Rattle.headline.specs.Horizons.{HorizonsReached}
 use Rattle.headline.specs.Indexes.{IndexesAreItsOwn}
 use Rattle.headline.specs.Managers.{OneManagerThroughout}
@@ -45,8 +46,9 @@ pub record InsideIsSafe (e : Estate AnyNode) : Type 0 where
   pub read_back : FiledIsReadBack e
   -- and where the cleaner comes back, no two segments of its new incarnation were filed
   pub restarts_file_one : TheCleanerFilesOne e
-  -- each segment that a client files while it serves is of its own log and of the incarnation that opened it, and numbered behind the one that it filed last
-  pub clients_file_on : ClientsFileOn e
+  -- each segment that a client, the cleaner or a manager files while it serves is of its own log and of the incarnation that opened it, and numbered behind the
+  -- one that it filed last; a manager that serves again begins a new log
+  pub logs_file_on : (name : NodeId) → FilesItsLog e name
   -- and the least horizon that the registry keeps of a client's log, or of the cleaner's, is 1 at most, or at most one beyond a segment that its owner filed
   pub horizons_filed : HorizonsReached e
   -- what servers were told to delete was dropped in an act by then, and is below the least horizon of its log that the registry keeps; what the cleaner drops in

@@ -5,7 +5,7 @@ use Rattle.client_log.specs.declared.input.In.TheVariants as log_in
 use Rattle.manager_node.specs.declared.phase.Phase.{Phase}
 use Rattle.manager_node.specs.declared.phase.Phase.TheVariants.{Down, Waiting, Serving as Serves}
 use Rattle.manager_node.specs.Events.{happens, manager_deliver, on_event, on_packet, on_time, on_waiting, on_welcome, takes_welcome}
-use Rattle.manager_node.specs.Phases.{Went_to, begin_down, begin_serving, begin_waiting, crash, down_item, down_wish, phase_has_room, restart, serves, serving_item, serving_wish, waiting_item, waiting_wish, wish_at, with_begun}
+use Rattle.manager_node.specs.Phases.{Went_to, begin_down, begin_serving, begin_waiting, crash, down_item, down_wish, lasting_of, phase_has_room, restart, serves, serving_item, serving_wish, waiting_item, waiting_wish, wish_at, with_begun}
 use Rattle.manager_serving.specs.Checkpoints.{Done}
 use Rattle.manager_serving.specs.declared.serving.Serving.{Serving}
 use Rattle.manager_serving.specs.Serving as serving
@@ -191,7 +191,7 @@ module _ (what : Do) where
     packet_turn s clients =
         by_test (TurnsTo s) (names_known_groups s.maps packet.body) (on_body s clients packet.from packet.body) (ask_for_maps s)
         (λ _. body_turn s clients packet.body refl)
-        (λ _. ServesOn (Then (Notes s (ask_for_maps s).state refl refl refl refl) (Says (ask_for_maps s).state _ (Greets _ _))))
+        (λ _. ServesOn (Then (Notes s (ask_for_maps s).state refl refl refl refl refl refl) (Says (ask_for_maps s).state _ (Greets _ _))))
 
   -- ---- time
 
@@ -205,10 +205,10 @@ module _ (what : Do) where
   abbrev Turns : Phase → Went_to → Type 0
   Turns p w = Turn what p w.state w.outs
 
-  crashes_turn : (p : Phase) (life : Life) (number : ℕ) → Turns p (crash life number)
+  crashes_turn : (p : Phase) (life : Life) (number : ℕ) → life.number ≡ (lasting_of p).number → Turns p (crash life number)
   unfolding crash
-  crashes_turn p life number =
-      Falls p _ _ tt
+  crashes_turn p life number same =
+      Falls p _ _ tt same
       (all_append Said (answers_unanswered life.items.unanswered answer.Cut) _ (unanswered_said life.items.unanswered answer.Cut)
       (AnswersItem number answer.Done, tt))
 
@@ -217,12 +217,12 @@ module _ (what : Do) where
   down_turn life = by (next_item life.items)
     where
       by_wish : (number : ℕ) (asked : Option Work) → Turns (Down life) (down_wish (with_begun life) number (wish_at asked))
-      by_wish number None = Falls _ _ _ tt (AnswersItem number _, tt)
-      by_wish number (Some (work.Restart node)) = Falls _ _ _ tt (AnswersItem number _, (Greets _ _, tt))
-      by_wish number (Some _) = Falls _ _ _ tt (AnswersItem number _, tt)
+      by_wish number None = Falls _ _ _ tt refl (AnswersItem number _, tt)
+      by_wish number (Some (work.Restart node)) = Falls _ _ _ tt refl (AnswersItem number _, (Greets _ _, tt))
+      by_wish number (Some _) = Falls _ _ _ tt refl (AnswersItem number _, tt)
 
       by : (item : Option ℕ) → Turns (Down life) (down_item (with_begun life) item)
-      by None = Falls _ _ _ tt tt
+      by None = Falls _ _ _ tt refl tt
       by (Some number) = by_wish number (work_at (with_begun life).items number)
 
   waiting_turn : (life : Life) (hello : ℕ) → Turns (Waiting life hello) (begin_waiting life hello)
@@ -230,12 +230,12 @@ module _ (what : Do) where
   waiting_turn life hello = by (next_item life.items)
     where
       by_wish : (number : ℕ) (asked : Option Work) → Turns (Waiting life hello) (waiting_wish (with_begun life) hello number (wish_at asked))
-      by_wish number None = Falls _ _ _ tt (AnswersItem number _, tt)
-      by_wish number (Some (work.Crash node)) = crashes_turn _ (with_begun life) number
-      by_wish number (Some _) = Falls _ _ _ tt (AnswersItem number _, tt)
+      by_wish number None = Falls _ _ _ tt refl (AnswersItem number _, tt)
+      by_wish number (Some (work.Crash node)) = crashes_turn _ (with_begun life) number refl
+      by_wish number (Some _) = Falls _ _ _ tt refl (AnswersItem number _, tt)
 
       by : (item : Option ℕ) → Turns (Waiting life hello) (waiting_item (with_begun life) hello item)
-      by None = Falls _ _ _ tt tt
+      by None = Falls _ _ _ tt refl tt
       by (Some number) = by_wish number (work_at (with_begun life).items number)
 
   begin_turn : (s : Serving) → Turns (Serves s) (begin_serving s)
@@ -243,11 +243,11 @@ module _ (what : Do) where
   begin_turn s = by (next_item s.lasting.items)
     where
       goes : (t : Serving) (o : List Effect) → Moves what (record s { lasting = with_begun s.lasting }) t o → Turn what (Serves s) (Serves t) o
-      goes t o m = ServesOn (Then (Notes s (record s { lasting = with_begun s.lasting }) refl refl refl refl) m)
+      goes t o m = ServesOn (Then (Notes s (record s { lasting = with_begun s.lasting }) refl refl refl refl refl refl) m)
 
       by_wish : (number : ℕ) (asked : Option Work) → Turns (Serves s) (serving_wish (record s { lasting = with_begun s.lasting }) number (wish_at asked))
       by_wish number None = goes _ _ (checkpoint_goes what _ number)
-      by_wish number (Some (work.Crash node)) = crashes_turn _ (with_begun s.lasting) number
+      by_wish number (Some (work.Crash node)) = crashes_turn _ (with_begun s.lasting) number refl
       by_wish number (Some (work.Restart node)) = goes _ _ (Says _ _ (AnswersItem number _))
       by_wish number (Some _) = goes _ _ (checkpoint_goes what _ number)
 
@@ -258,8 +258,8 @@ module _ (what : Do) where
   -- ---- all events
 
   stays_turn : (p : Phase) → Turns p (still p)
-  stays_turn (Down life) = Falls _ _ _ tt tt
-  stays_turn (Waiting life hello) = Falls _ _ _ tt tt
+  stays_turn (Down life) = Falls _ _ _ tt refl tt
+  stays_turn (Waiting life hello) = Falls _ _ _ tt refl tt
   stays_turn (Serves s) = ServesOn (Rests s)
 
   welcome_turn : (peers : Peers) (packet : Packet) → what ≡ Deliver packet → (life : Life) (hello : ℕ) (said : Body) → packet.body ≡ said
@@ -268,7 +268,8 @@ module _ (what : Do) where
   welcome_turn peers packet event life hello (body.Welcome m) says =
       let s : Serving = again life (forgotten peers.servers) m.news.groups in
       by_test (Turns (Waiting life hello)) (takes_welcome peers life hello m) (serves (on_news s peers.clients m.news)) (still (Waiting life hello))
-      (λ _. Wakes life hello refl refl (news_goes what packet m.news (brought packet event m.news (ap news_in says)) s peers.clients))
+      (λ _. Wakes life hello refl refl (record { same = refl; its = refl; boot = refl; end = refl; flight = refl })
+      (news_goes what packet m.news (brought packet event m.news (ap news_in says)) s peers.clients))
       (λ _. stays_turn (Waiting life hello))
   welcome_turn peers packet event life hello _ says = stays_turn (Waiting life hello)
 
@@ -288,7 +289,7 @@ module _ (what : Do) where
     where
       passes : (q : Phase) → Turns q (on_time q)
       passes (Down life) = stays_turn (Down life)
-      passes (Waiting life hello) = Falls _ _ _ tt (Greets _ _, tt)
+      passes (Waiting life hello) = Falls _ _ _ tt refl (Greets _ _, tt)
       passes (Serves s) = ServesOn (tick_goes s)
 
 pub manager_events_are_moves : ManagerEventsAreMoves

@@ -1,5 +1,5 @@
 -- What a manager does to its log, and to write its checkpoints, and for the maps, is made of moves.
-use Rattle.std.proofs.Common.{ℕ, ◌==◌, List, [], ◌∷◌, length, is_some, Option, Some, None, refl}
+use Rattle.std.proofs.Common.{⊎_elim, ℕ, ◌==◌, List, [], ◌∷◌, length, is_some, Option, Some, None, refl, sym, subst}
 use Rattle.std.specs.List.{AllByRecursion, slice_get}
 use Rattle.std.specs.Prelude.{◌≡◌, flat_map, fold}
 use Rattle.checkpoint.specs.declared.input.In.{In as WriterIn}
@@ -13,6 +13,7 @@ use Rattle.client_log.specs.declared.input.In.TheVariants as log_in
 use Rattle.client_log.specs.declared.output.Out.{Out as LogOut}
 use Rattle.client_log.specs.declared.output.Out.TheVariants as log_out
 use Rattle.client_log.specs.Transition as log
+use Rattle.client_log.specs.Transition.{end_of}
 use Rattle.group_map.specs.GroupMapState.{GroupMapState}
 use Rattle.manager_serving.specs.Checkpoints.{Done, answered_by, asked, awaits, begin_slot, checkpointing_count, checkpointing_store, checkpointing_tell_again, give_parts, gives, log_says, log_says_each, next_for, next_from, next_slot, no_more, on_checkpoint, on_ckpt_ack, on_settled, register, send_done, serving_tell_again, serving_write, waits, writer_says, writer_says_each, writer_takes, writes_slot}
 use Rattle.manager_serving.specs.declared.checkpointing.Checkpointing.{Checkpointing}
@@ -37,12 +38,15 @@ use Rattle.wire_msg.specs.declared.registry.CkptDone.{CkptDone}
 use Rattle.wire_msg.specs.declared.registry.News.{News}
 use Rattle.xfs_base.proofs.Booleans.{by_test}
 use Rattle.xfs_base.specs.declared.segment.SegRef.{SegRef}
+use Rattle.xfs_base.specs.declared.segment.End.{End}
 use Rattle.xfs_base.specs.Steps.{Stepped, steps, still}
 use Rattle.node_moves.specs.server_moves.Moves.{Brought}
 use Rattle.manager_moves.proofs.Slots.{Goes, hears_all, regroups_go}
 use Rattle.manager_moves.specs.Moves.{Moves, Said, SlotMove, Written}
-use Rattle.manager_moves.specs.Moves.Moves.{InSlot, LogTakes, Notes, Rests, Says, TakesMaps, Then, WriterTakes}
-use Rattle.manager_moves.specs.Moves.Said.{Acts, AnswersItem, Registers, Stores}
+use Rattle.node_moves.proofs.client_walk.LogTurns as turned
+use Rattle.segment_format.specs.Rows.{rows_of}
+use Rattle.manager_moves.specs.Moves.Moves.{InSlot, LogSettles, LogTakes, Notes, Rests, Says, TakesMaps, Then, WriterTakes}
+use Rattle.manager_moves.specs.Moves.Said.{AnswersItem, Registers, Stores}
 use Rattle.manager_moves.specs.Moves.SlotMove.{Cleans, Names, Stays}
 use Rattle.manager_moves.specs.Moves.Written.{GroupsCame, PartsMade}
 
@@ -108,14 +112,14 @@ module _ (what : Do) where
   says_go : (s : Serving) (o : WriterOut) → Goes what s (writer_says s o)
   unfolding writer_says give_parts register slot_table_name
   says_go s (writer_out.Parts items) =
-      Then (LogTakes s (log_in.Parts items) (PartsMade items))
+      Then (LogTakes s (log_in.Parts items) (PartsMade items) (turned.parts_rest s.log items).same)
       (all_said _ (flat_map checkpointing_store (log.transition s.log (log_in.Parts items)).outs)
       (fragments_said (log.transition s.log (log_in.Parts items)).outs))
   says_go s (writer_out.Done slot epoch parts horizon) =
       let done : CkptDone = record { slot = slot; epoch = epoch; ask = next_ask s.lasting.questions; parts = parts; horizon = horizon } in
       let t : Serving = record s { slots = changed_in s.slots slot (phase_name epoch parts) (slice_get s.slots slot) } in
       let told : Serving = (register (asked s) done).state in
-      Then (named s slot epoch parts) (Then (Notes t told refl refl refl refl) (Says told _ (Registers done)))
+      Then (named s slot epoch parts) (Then (Notes t told refl refl refl refl refl refl) (Says told _ (Registers done)))
   says_go s writer_out.Kept = Rests s
   says_go s (writer_out.Stale epoch) = Rests s
 
@@ -123,14 +127,31 @@ module _ (what : Do) where
   unfolding writer_takes writer_says_each
   writer_goes s given = Then (WriterTakes s given) (steps_go writer_says says_go _ (writer.transition s.writer given).outs)
 
-  log_says_go : (s : Serving) (o : LogOut) → Goes what s (log_says s o)
+  sends_go : (s : Serving) (outs : List LogOut) → AllByRecursion turned.IsSend outs → Goes what s (steps log_says s outs)
+  unfolding log_says
+  sends_go s [] all = Rests s
+  sends_go s (log_out.Send fragment member ∷ outs) all = Then (Says s _ (Stores fragment member)) (sends_go s outs all.1)
+  sends_go s (log_out.Settled end rows ∷ outs) all = absurd all.0
+
+  -- what was in flight is settled, and filed
+  settles_go : (s : Serving) (given : LogIn) → Written what given → (q : turned.Lands s.log.flight (log.transition s.log given))
+      → Goes what s (steps log_says (record s { log = (log.transition s.log given).state })
+      (log_out.Settled (end_of q.flight.segment) (rows_of q.flight.segment) ∷ q.rest))
   unfolding log_says on_settled
-  log_says_go s (log_out.Send fragment member) = Says s _ (Stores fragment member)
-  log_says_go s (log_out.Settled end rows) = Then (Says s _ (Acts _)) (writer_goes s (writer_in.Settled end))
+  settles_go s given because q =
+      let t : Serving = record s { log = (log.transition s.log given).state } in
+      let end : End = end_of q.flight.segment in
+      Then (Then (LogSettles s given because q.flight q.flew q.ends) (writer_goes t (writer_in.Settled end)))
+      (sends_go (writer_takes t (writer_in.Settled end)).state q.rest q.sends)
 
   pub log_goes : (s : Serving) (given : LogIn) → Written what given → Goes what s (serving_write s given)
   unfolding serving_write log_says_each
-  log_goes s given because = Then (LogTakes s given because) (steps_go log_says log_says_go _ (log.transition s.log given).outs)
+  log_goes s given because =
+      let r : log.Done = log.transition s.log given in
+      let t : Serving = record s { log = r.state } in
+      ⊎_elim (λ (q : turned.Rests s.log.end r). Then (LogTakes s given because q.same) (sends_go t r.outs q.sends))
+      (λ (q : turned.Lands s.log.flight r). subst (λ (outs : List LogOut). Goes what s (steps log_says t outs)) (sym q.outs) (settles_go s given because q))
+      (turned.log_turns s.log given)
 
   -- ---- checkpoints
 
@@ -144,11 +165,11 @@ module _ (what : Do) where
 
       by_slot : (job : Checkpointing) (o : Option ℕ) → Goes what s (next_from s job o)
       by_slot job None =
-          Then (Notes s (no_more s job).state refl refl refl refl)
+          Then (Notes s (no_more s job).state refl refl refl refl refl refl)
           (all_said (no_more s job).state _ (unanswered_said s.lasting.items.unanswered (answer.Count job.count)))
       by_slot job (Some slot) =
           let t : Serving = record s { checkpoint = Some (record job { next = slot_after slot }) } in
-          Then (Notes s t refl refl refl refl)
+          Then (Notes s t refl refl refl refl refl refl)
           (Then (cleaned t slot) (written (record t { slots = slot_table_clean s.slots slot }) (begin_at s.slots slot)))
 
       by : (checkpoint : Option Checkpointing) → Goes what s (next_for s checkpoint)
@@ -159,7 +180,7 @@ module _ (what : Do) where
   unfolding on_checkpoint
   checkpoint_goes s number =
       by_test (Goes what s) (is_some s.lasting.items.unanswered) (gives s (Answers number answer.Busy ∷ [])) (next_slot (waits s number))
-      (λ _. Says s _ (AnswersItem number answer.Busy)) (λ _. Then (Notes s (waits s number) refl refl refl refl) (next_goes (waits s number)))
+      (λ _. Says s _ (AnswersItem number answer.Busy)) (λ _. Then (Notes s (waits s number) refl refl refl refl refl refl) (next_goes (waits s number)))
 
   pub ack_goes : (s : Serving) (ack : CkptAck) → Goes what s (on_ckpt_ack s ack)
   unfolding on_ckpt_ack
@@ -170,7 +191,7 @@ module _ (what : Do) where
       let u : Serving = record s { writer = r.state; checkpoint = fold checkpointing_count s.checkpoint r.outs } in
       by_test (Goes what s) (awaits s.checkpoint ack.ask) (answered_by s r) (still s)
       (λ _. by_test (Goes what s) (length r.outs == 0) (still t) (next_slot u) (λ _. WriterTakes s given)
-      (λ _. Then (WriterTakes s given) (Then (Notes t u refl refl refl refl) (next_goes u)))) (λ _. Rests s)
+      (λ _. Then (WriterTakes s given) (Then (Notes t u refl refl refl refl refl refl) (next_goes u)))) (λ _. Rests s)
 
   pub tells_again : (s : Serving) → Goes what s (serving_tell_again s)
   unfolding serving_tell_again

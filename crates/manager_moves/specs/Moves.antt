@@ -6,13 +6,16 @@ use Rattle.checkpoint.specs.Transition as writer
 use Rattle.client_log.specs.declared.input.In.{In as LogIn}
 use Rattle.client_log.specs.declared.input.In.TheVariants as log_in
 use Rattle.client_log.specs.Transition as log
+use Rattle.client_log.specs.Transition.{end_of}
 use Rattle.group_map.specs.declared.group.Member.{Member}
 use Rattle.group_map.specs.GroupMapState.{GroupMapState}
-use Rattle.log_owner.specs.Sending.{hello, server_in, store}
+use Rattle.log_flight.specs.Flights.{FlightState}
+use Rattle.log_owner.specs.Sending.{hello, name_of, server_in, store}
 use Rattle.manager_node.specs.declared.manager.Manager.{Manager}
 use Rattle.manager_node.specs.declared.phase.Phase.{Phase}
 use Rattle.manager_node.specs.declared.phase.Phase.TheVariants.{Down, Waiting, Serving as Serves}
 use Rattle.manager_node.specs.Events.{happens}
+use Rattle.manager_node.specs.Phases.{lasting_of}
 use Rattle.manager_serving.specs.declared.serving.Serving.{Serving}
 use Rattle.manager_serving.specs.Serving.{client_in, fed_log}
 use Rattle.manager_slots.specs.declared.lasting.Lasting.{Lasting as Life}
@@ -35,7 +38,7 @@ use Rattle.takeover.specs.Transition as take
 use Rattle.token_manager.specs.declared.input.In.{In as SlotIn}
 use Rattle.token_manager.specs.declared.input.In.TheVariants as slot_in
 use Rattle.token_manager.specs.Transition as slot
-use Rattle.version_model.specs.declared.act.Act.{Act}
+use Rattle.version_model.specs.declared.act.Act.TheVariants.{Filed}
 use Rattle.version_model.specs.declared.answer.Answer.{Answer}
 use Rattle.wire_msg.specs.declared.body.Body.TheVariants as body
 use Rattle.wire_msg.specs.declared.cleaning.Check.{Check}
@@ -54,10 +57,11 @@ use Rattle.wire_msg.specs.declared.tokens.Want.{Want}
 use Rattle.xfs_base.specs.Blocks.{slot_of}
 use Rattle.xfs_base.specs.declared.fragment.Fragment.{Fragment}
 use Rattle.xfs_base.specs.declared.news.SlotNews.{SlotNews}
-use Rattle.xfs_base.specs.declared.node.NodeId.TheVariants.{Cleaner, Registry}
+use Rattle.xfs_base.specs.declared.node.NodeId.TheVariants.{Cleaner, Manager as AManager, Registry}
 use Rattle.xfs_base.specs.declared.segment.LogId.{LogId}
 use Rattle.xfs_base.specs.declared.segment.SegName.{SegName}
 use Rattle.xfs_base.specs.declared.segment.SegRef.{SegRef}
+use Rattle.xfs_base.specs.Logs.{log_of}
 use Rattle.node_moves.specs.server_moves.Moves.{Brought, Came}
 
 -- ---- because of what a slot that is managed takes an input
@@ -145,7 +149,6 @@ pub data SlotMove (what : Do) (known : Option GroupMapState) (k : ℕ) : Asker �
 -- what is said by no slot
 pub data Said : Effect → Type 0 where
   Stores : (f : Fragment) (m : Member) → Said (store f m)
-  Acts : (a : Act) → Said (Does a)
   AnswersItem : (item : ℕ) (a : Answer) → Said (Answers item a)
   Greets : (inc ask : ℕ) → Said (hello inc ask)
   Registers : (d : CkptDone) → Said (Send Registry (body.CkptDone d))
@@ -158,11 +161,18 @@ pub data Moves (what : Do) : Serving → Serving → List Effect → Type 0 wher
   InSlot : (s : Serving) (k : ℕ) (p : SlotPhase) (x : Asker) (o : List Effect) → slice_get s.slots k ≡ Some p
       → SlotMove what s.maps.groups k (asker p s.lasting.questions) x o
       → Moves what s (record s { slots = slice_set s.slots k x.phase; lasting = record s.lasting { questions = x.questions } }) o
-  LogTakes : (s : Serving) (given : LogIn) → Written what given → Moves what s (record s { log = (log.transition s.log given).state }) []
+  -- Its log takes an input, and ends as before; or the segment that was in flight is settled, and it is filed.
+  LogTakes : (s : Serving) (given : LogIn) → Written what given → (log.transition s.log given).state.end ≡ s.log.end
+      → Moves what s (record s { log = (log.transition s.log given).state }) []
+  LogSettles : (s : Serving) (given : LogIn) → Written what given → (f : FlightState) → s.log.flight ≡ Some f
+      → (log.transition s.log given).state.end ≡ end_of f.segment
+      → Moves what s (record s { log = (log.transition s.log given).state })
+      (Does (Filed (name_of (log_of (AManager s.lasting.number)) (end_of f.segment))) ∷ [])
   WriterTakes : (s : Serving) (given : WriterIn) → Moves what s (record s { writer = (writer.transition s.writer given).state }) []
   TakesMaps : (s : Serving) (packet : Packet) (news : News) → Brought what packet news → Moves what s (record s { maps = maps_take s.maps news }) []
   -- It notes which items, questions and checkpoints are open.
-  Notes : (s t : Serving) → t.slots ≡ s.slots → t.log ≡ s.log → t.writer ≡ s.writer → t.maps ≡ s.maps → Moves what s t []
+  Notes : (s t : Serving) → t.slots ≡ s.slots → t.log ≡ s.log → t.writer ≡ s.writer → t.maps ≡ s.maps
+      → t.lasting.number ≡ s.lasting.number → t.lasting.inc ≡ s.lasting.inc → Moves what s t []
   Says : (s : Serving) (e : Effect) → Said e → Moves what s s (e ∷ [])
 
 -- a takeover of a slot has an answer to the question that is out for it
@@ -178,6 +188,14 @@ NotServing (Down life) = Unit {0}
 NotServing (Waiting life hello) = Unit {0}
 NotServing (Serves s) = ⊥
 
+-- one whose log is new, of the incarnation of the manager
+pub record IsNew (life : Life) (s : Serving) : Type 0 where
+  pub same : s.lasting ≡ life
+  pub its : s.log.log ≡ log_of (AManager life.number)
+  pub boot : s.log.inc ≡ life.inc
+  pub end : s.log.end.seq ≡ 0
+  pub flight : s.log.flight ≡ None
+
 -- what an event makes of a manager
 pub data Turn (what : Do) : Phase → Phase → List Effect → Type 0 where
   -- It serves, and makes moves; or a takeover has its answer.
@@ -190,9 +208,10 @@ pub data Turn (what : Do) : Phase → Phase → List Effect → Type 0 where
       }))
       (took k (asker (phase.Taking x) s.lasting.questions) x given).outs
   -- It doesn't serve then.
-  Falls : (p q : Phase) (o : List Effect) → NotServing q → AllByRecursion Said o → Turn what p q o
-  -- It is welcomed, and serves again; it knows of no slot.
-  Wakes : (life : Life) (asking : ℕ) {s t : Serving} {o : List Effect} → s.slots ≡ slot_table_unknown → s.maps.groups ≡ None → Moves what s t o
+  Falls : (p q : Phase) (o : List Effect) → NotServing q → (lasting_of q).number ≡ (lasting_of p).number → AllByRecursion Said o → Turn what p q o
+  -- It is welcomed, and serves again; it knows of no slot, and its log is new.
+  Wakes : (life : Life) (asking : ℕ) {s t : Serving} {o : List Effect} → s.slots ≡ slot_table_unknown → s.maps.groups ≡ None
+      → IsNew life s → Moves what s t o
       → Turn what (Waiting life asking) (Serves t) o
 
 -- Each event of a manager is so.

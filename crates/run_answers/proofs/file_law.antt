@@ -3,4 +3,7 @@ mod Lines
 mod Serving
 mod Openings
 mod Clients
-mod Runs
+mod Owners
+mod Cleaning
+mod Managing
+mod EachNode

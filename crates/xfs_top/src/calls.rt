@@ -29,7 +29,7 @@ use run_answers::act_law::{
 use run_answers::change_law::calls_find_versions;
 use run_answers::checkpoint_law::checkpoints_are_true;
 use run_answers::due_law::runs_answer_what_is_due;
-use run_answers::file_law::clients_file_one_after_another;
+use run_answers::file_law::nodes_file_one_after_another;
 use run_answers::linear_law::runs_are_linearizable;
 use run_answers::number_law::{cleanings_are_true, rebuilds_are_true};
 use run_answers::once_law::items_are_answered_once;
@@ -87,7 +87,7 @@ fn every_run_is_safe()
     items_are_answered_once();
     answers_are_acts();
     clients_act_for_their_items();
-    clients_file_one_after_another();
+    nodes_file_one_after_another();
     answers_fit_where_a_node_stands();
     runs_answer_what_is_due();
     rebuilds_are_true();

@@ -8,6 +8,7 @@ use Rattle.node_base.specs.Effects.{act_of, acts_of}
 use Rattle.version_model.specs.declared.act.Act.{Act}
 use Rattle.version_model.specs.declared.act.Act.TheVariants as act
 use Rattle.xfs_base.specs.declared.node.NodeId.{NodeId}
+use Rattle.xfs_base.specs.declared.segment.LogId.{LogId}
 use Rattle.xfs_base.specs.declared.segment.SegName.{SegName}
 use Rattle.headline.specs.Filings.{FilesOn, filed_last}
 
@@ -50,22 +51,22 @@ pub effects_last : (me : NodeId) (before : ℕ) (first : List Effect) (name : Se
     → filed_last before (acts_of me (first ++ Does (act.Filed name) ∷ [])) ≡ name.seq
 effects_last me before first name = last_then_effects me before first (Does (act.Filed name) ∷ [])
 
-module _ (client inc : ℕ) where
+module _ (log : LogId) (inc : ℕ) where
   -- what these acts file is in order, from one number up to another
   pub record Files (before : ℕ) (acts : List Act) (after : ℕ) : Type 0 where
-    pub each : FilesOn client inc before acts
+    pub each : FilesOn log inc before acts
     pub last : filed_last before acts ≡ after
 
-  on_aside : (a : Act) → IsOther a → (before : ℕ) (acts : List Act) → FilesOn client inc before acts → FilesOn client inc before (a ∷ acts)
+  on_aside : (a : Act) → IsOther a → (before : ℕ) (acts : List Act) → FilesOn log inc before acts → FilesOn log inc before (a ∷ acts)
   on_aside (act.Filed name) other before acts on = absurd other
   on_aside _ other before acts on = on
 
-  on_then : (before : ℕ) (xs ys : List Act) → FilesOn client inc before xs → FilesOn client inc (filed_last before xs) ys → FilesOn client inc before (xs ++ ys)
+  on_then : (before : ℕ) (xs ys : List Act) → FilesOn log inc before xs → FilesOn log inc (filed_last before xs) ys → FilesOn log inc before (xs ++ ys)
   on_then before [] ys a b = b
   on_then before (act.Filed name ∷ xs) ys a b = (a.0, on_then name.seq xs ys a.1 b)
   on_then before (_ ∷ xs) ys a b = on_then before xs ys a b
 
-  pub on_none : (me : NodeId) (before : ℕ) (outs : List Effect) → AllFileNone outs → FilesOn client inc before (acts_of me outs)
+  pub on_none : (me : NodeId) (before : ℕ) (outs : List Effect) → AllFileNone outs → FilesOn log inc before (acts_of me outs)
   on_none me before [] all = tt
   on_none me before (Send to said ∷ outs) all = on_none me before outs all.1
   on_none me before (Answers item a ∷ outs) all = on_none me before outs all.1
@@ -78,6 +79,6 @@ module _ (client inc : ℕ) where
   pub then_files : (me : NodeId) (a b c : ℕ) (xs ys : List Effect) → Files a (acts_of me xs) b → Files b (acts_of me ys) c → Files a (acts_of me (xs ++ ys)) c
   then_files me a b c xs ys f g =
       subst (λ acts. Files a acts c) (sym (flat_map-append (act_of me) xs ys)) (record {
-        each = on_then a (acts_of me xs) (acts_of me ys) f.each (subst (λ n. FilesOn client inc n (acts_of me ys)) (sym f.last) g.each);
+        each = on_then a (acts_of me xs) (acts_of me ys) f.each (subst (λ n. FilesOn log inc n (acts_of me ys)) (sym f.last) g.each);
         last = last_then a (acts_of me xs) (acts_of me ys) ∙ (ap (λ n. filed_last n (acts_of me ys)) f.last ∙ g.last);
       })

@@ -66,7 +66,7 @@ module _ (client : ℕ) where
   -- what an event makes of it
   pub record Turned (last : ℕ) (p : Phase) (w : Went_to) : Type 0 where
     pub holds : PhaseFiles (filed_last last (acts_of me w.outs)) w.state
-    pub numbers : (log : LogState) → clients_log p ≡ Some log → FilesOn client log.inc last (acts_of me w.outs)
+    pub numbers : (log : LogState) → clients_log p ≡ Some log → FilesOn (record { 0 = client }) log.inc last (acts_of me w.outs)
     pub opens : clients_log p ≡ None → (log : LogState) → clients_log w.state ≡ Some log → log.inc ≡ (lasting_of w.state).inc
     pub stays : (was log : LogState) → clients_log p ≡ Some was → clients_log w.state ≡ Some log → log.inc ≡ was.inc
 
@@ -99,7 +99,7 @@ module _ (client : ℕ) where
           ),
         );
         numbers = λ log fact.
-            subst (λ (l : LogState). FilesOn client l.inc last acts) (one_log s.log log fact) (subst (λ n. FilesOn client s.log.inc n acts) end went.files.each);
+            subst (λ (l : LogState). FilesOn (record { 0 = client }) l.inc last acts) (one_log s.log log fact) (subst (λ n. FilesOn (record { 0 = client }) s.log.inc n acts) end went.files.each);
         opens = λ none. absurd (is_log s.log none);
         stays = λ was log fact behind.
             sym (ap (λ (l : LogState). l.inc) (one_log d.state.log log behind)) ∙ (boot ∙ ap (λ (l : LogState). l.inc) (one_log s.log was fact));
@@ -125,7 +125,7 @@ module _ (client : ℕ) where
       let outs : List Effect = falls s ∷ answers_unanswered s.lasting.items.unanswered answer.Cut ++ Answers number answer.Done ∷ [] in
       let none : AllFileNone outs = (tt, cut_none s.lasting.items.unanswered number) in record {
         holds = h.0;
-        numbers = λ log fact. on_none client log.inc me last outs none;
+        numbers = λ log fact. on_none (record { 0 = client }) log.inc me last outs none;
         opens = λ was log fact. absurd (no_log log fact);
         stays = λ was log fact behind. absurd (no_log log behind);
       }

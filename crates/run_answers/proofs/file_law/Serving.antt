@@ -144,7 +144,7 @@ module _ (c inc : ℕ) where
   -- what is filed leads from one end to another
   pub record Went (from to : End) (d : Done) : Type 0 where
     pub state : At to d.state
-    pub files : Files c inc from.seq (acts_of me d.outs) to.seq
+    pub files : Files (record { 0 = c }) inc from.seq (acts_of me d.outs) to.seq
 
   abbrev pub Goes : End → Done → Type 0
   Goes from d = (to : End) × Went from to d
@@ -152,13 +152,13 @@ module _ (c inc : ℕ) where
   pub quiet : (end : End) (d : Done) → Rests_at end d → Went end end d
   quiet end d g =
       let h = frames.gone FilesNone (At end) d g in
-      record { state = h.0; files = none_files c inc me end.seq d.outs h.1 }
+      record { state = h.0; files = none_files (record { 0 = c }) inc me end.seq d.outs h.1 }
 
   rests : (end : End) (d : Done) → Rests_at end d → Goes end d
   rests end d g = (end, quiet end d g)
 
   went_then : (a b t : End) (d e : Done) → Went a b d → Went b t e → Went a t (saying d.outs e)
-  went_then a b t d e x y = record { state = y.state; files = then_files c inc me a.seq b.seq t.seq d.outs e.outs x.files y.files }
+  went_then a b t d e x y = record { state = y.state; files = then_files (record { 0 = c }) inc me a.seq b.seq t.seq d.outs e.outs x.files y.files }
 
   then_goes : (a : End) (d e : Done) → Goes a d → ((b : End) → At b d.state → Goes b e) → Goes a (saying d.outs e)
   then_goes a d e x f = (let y = f x.0 x.1.state in (y.0, went_then a x.0 y.0 d e x.1 y.1))
@@ -179,14 +179,14 @@ module _ (c inc : ℕ) where
       let g : Went to to (steps give_if_clean fed (dirty_in s.tokens.blocks)) =
       quiet to (steps give_if_clean fed (dirty_in s.tokens.blocks))
       (frames.goes_steps FilesNone frames.Any (At to) give_if_clean (flights.give_if_clean_so (walk to)) fed (dirty_in s.tokens.blocks) k) in
-      let pushed : Files c inc to.seq (acts_of me (push_all fed.managers fed.feed)) to.seq =
-      none_files c inc me to.seq (push_all fed.managers fed.feed) (all_pushed_none fed.managers fed.feed) in
+      let pushed : Files (record { 0 = c }) inc to.seq (acts_of me (push_all fed.managers fed.feed)) to.seq =
+      none_files (record { 0 = c }) inc me to.seq (push_all fed.managers fed.feed) (all_pushed_none fed.managers fed.feed) in
       let next : to.seq ≡ suc end.seq = (let q = named.next in omega (arith, q)) in
-      let first : Files c inc end.seq (acts_of me (Does (act.Filed (name_of (log_of s.lasting) to)) ∷ push_all fed.managers fed.feed)) to.seq =
+      let first : Files (record { 0 = c }) inc end.seq (acts_of me (Does (act.Filed (name_of (log_of s.lasting) to)) ∷ push_all fed.managers fed.feed)) to.seq =
       record { each = (record { log = named.own; inc = named.boot; number = next }, pushed.each); last = pushed.last } in
       record {
         state = g.state;
-        files = then_files c inc me end.seq to.seq to.seq (Does (act.Filed (name_of (log_of s.lasting) to)) ∷ push_all fed.managers fed.feed)
+        files = then_files (record { 0 = c }) inc me end.seq to.seq to.seq (Does (act.Filed (name_of (log_of s.lasting) to)) ∷ push_all fed.managers fed.feed)
             (steps give_if_clean fed (dirty_in s.tokens.blocks)).outs first g.files;
       }
 

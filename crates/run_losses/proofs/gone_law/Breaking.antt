@@ -115,11 +115,11 @@ module _ (what : Do) where
   turned p q o (ServesOn {s = s} {t = t} m) =
       let r = moves_rest what s t o m in record { broken = λ k epoch name fact. inl (r.kept k epoch name fact); gones = r.gones }
   turned p q o (Learns s k x given a) = learns s k x given a
-  turned p q o (Falls a b m down said) = record {
+  turned p q o (Falls a b m down number said) = record {
     broken = λ k epoch name fact. absurd (subst IsWhole fact (whole_in k q down));
     gones = all_weaker Said (EffectGone (IsOfBroken p)) (said_none (IsOfBroken p)) o said;
   }
-  turned p q o (Wakes life asking {s = s} {t = t} fresh none m) =
+  turned p q o (Wakes life asking {s = s} {t = t} fresh none new m) =
       let r = subst (λ z. TableRests z t.slots o) fresh (moves_rest what s t o m) in
       record {
         broken = λ k epoch name fact. absurd (subst IsWhole (r.kept k epoch name fact) (unknown_whole k));

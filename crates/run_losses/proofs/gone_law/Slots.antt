@@ -9,8 +9,8 @@ use Rattle.group_map.specs.GroupMapState.{GroupMapState}
 use Rattle.headline.specs.Managers.{phase_at}
 use Rattle.manager_moves.specs.Moves.{Given, Moves, Said, SlotMove, begun}
 use Rattle.manager_moves.specs.Moves.Given.{MapsCame, ReportCame}
-use Rattle.manager_moves.specs.Moves.Moves.{InSlot, LogTakes, Notes, Rests, Says, TakesMaps, Then, WriterTakes}
-use Rattle.manager_moves.specs.Moves.Said.{Acts, AnswersItem, Counts, Greets, Registers, Stores}
+use Rattle.manager_moves.specs.Moves.Moves.{InSlot, LogSettles, LogTakes, Notes, Rests, Says, TakesMaps, Then, WriterTakes}
+use Rattle.manager_moves.specs.Moves.Said.{AnswersItem, Counts, Greets, Registers, Stores}
 use Rattle.manager_moves.specs.Moves.SlotMove.{AsksAgain, Begins, Checks, Cleans, Hears, Leaves, Names, Refuses, Stays, Takes}
 use Rattle.manager_serving.specs.declared.serving.Serving.{Serving}
 use Rattle.manager_slots.specs.declared.slot_phase.SlotPhase.{SlotPhase}
@@ -68,7 +68,6 @@ EffectGone A (Does act) = Unit {0}
 
 pub said_none : (A : Gone → Type 0) (e : Effect) → Said e → EffectGone A e
 said_none A e (Stores f m) = tt
-said_none A e (Acts a) = tt
 said_none A e (AnswersItem item a) = tt
 said_none A e (Greets inc ask) = tt
 said_none A e (Registers d) = tt
@@ -222,8 +221,9 @@ module _ (what : Do) where
             (λ m epoch name fact. fact);
         gones = r.gones;
       }
-  moves_rest s t o (LogTakes u given because) = same_table s.slots
+  moves_rest s t o (LogTakes u given because same) = same_table s.slots
+  moves_rest s t o (LogSettles u given because f flew ends) = record { kept = λ k epoch name fact. fact; gones = (tt, tt) }
   moves_rest s t o (WriterTakes u given) = same_table s.slots
   moves_rest s t o (TakesMaps u packet news brought) = same_table s.slots
-  moves_rest s t o (Notes u v slots log writer maps) = subst (λ z. TableRests s.slots z []) (sym slots) (same_table s.slots)
+  moves_rest s t o (Notes u v slots log writer maps number inc) = subst (λ z. TableRests s.slots z []) (sym slots) (same_table s.slots)
   moves_rest s t o (Says u e said) = record { kept = λ k epoch name fact. fact; gones = (said_none (WasBroken s.slots) e said, tt) }
