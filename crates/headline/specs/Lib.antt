@@ -23,6 +23,7 @@ pub mod Files
 pub mod Dues
 pub mod Numbers
 pub mod Checkpoints
+pub mod Cleanings
 pub mod Calls
 pub mod ItemActs
 pub mod Courses

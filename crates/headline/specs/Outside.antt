@@ -6,6 +6,7 @@ use Rattle.world_base.specs.Items.{works_of}
 use Rattle.headline.specs.Answers.{AnswersAreActs, VersionsAreNewest}
 use Rattle.headline.specs.Changes.{CallsFindVersions}
 use Rattle.headline.specs.Checkpoints.{CheckpointsAreTrue}
+use Rattle.headline.specs.Cleanings.{CleaningsTakeWhatIsDue}
 use Rattle.headline.specs.Dues.{AnswersDue}
 use Rattle.headline.specs.Falls.{FallsApartThroughout}
 use Rattle.headline.specs.Files.{FileAnswersArePlanned}
@@ -77,6 +78,8 @@ pub record OutsideIsSafe (e : Estate AnyNode) : Type 0 where
   pub in_turn : BeginsInTurn e → AnswersInTurn e
   -- a rebuild answers how much was filled in, and is gone, of all that there was to fill in; a cleaning how many segments were dropped
   pub numbers_true : NumbersAreTrue e
+  -- and these are, of all that there was to empty, as many as it was asked for, or all, but for those that are lost
+  pub takes_what_is_due : CleaningsTakeWhatIsDue e
   -- and a checkpoint how many slots the registry was told of in time, of all that its manager managed as it came to them
   pub checkpoints_true : CheckpointsAreTrue e
   -- a call on files answers what its plan says of the answers of its calls on blocks, each acted since it began

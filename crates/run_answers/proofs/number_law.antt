@@ -1,16 +1,16 @@
 mod Evidence
 mod Running
-mod Awaiting
+pub mod Awaiting
 mod Asking
 mod Taking
 mod Events
 pub mod Acting
 mod Rebuilds
-mod Cleanings
-mod Choosing
-mod Tallies
-mod Turning
-mod Jobs
-mod Emptying
-mod Sweeping
-mod Counts
+pub mod Cleanings
+pub mod Choosing
+pub mod Tallies
+pub mod Turning
+pub mod Jobs
+pub mod Emptying
+pub mod Sweeping
+pub mod Counts

@@ -12,3 +12,4 @@ pub mod change_law
 pub mod checkpoint_law
 pub mod repeat_law
 pub mod file_law
+pub mod clean_law

@@ -3,7 +3,7 @@
 //! begins is answered (`due_law`), clients act for their items alone (`own_law`), and so each run is linearizable
 //! (`linear_law`), items that begin in turn find no node busy (`turn_law`), what a server, a manager and the registry are
 //! asked is answered (`reply_law`), a client whose call is open has asked for what it lacks (`wait_law`), what isn't
-//! acknowledged is said again (`repeat_law`), and what is counted is so (`number_law`, `checkpoint_law`). It has no
+//! acknowledged is said again (`repeat_law`), what is counted is so (`number_law`, `checkpoint_law`), and a cleaning takes what is due (`clean_law`). It has no
 //! code of the product: its functions call the laws that they stand on, and their contracts are laws.
 //!
 //! Each module is a law of its own: what it says of a run stands in the crate `headline`, what else it says in `specs/`, its lemmas in `proofs/`, below the
@@ -13,6 +13,7 @@
 pub mod act_law;
 pub mod change_law;
 pub mod checkpoint_law;
+pub mod clean_law;
 pub mod due_law;
 pub mod file_law;
 pub mod linear_law;

@@ -28,6 +28,7 @@ use run_answers::act_law::{
 };
 use run_answers::change_law::calls_find_versions;
 use run_answers::checkpoint_law::checkpoints_are_true;
+use run_answers::clean_law::cleanings_take_what_is_due;
 use run_answers::due_law::runs_answer_what_is_due;
 use run_answers::file_law::nodes_file_one_after_another;
 use run_answers::linear_law::runs_are_linearizable;
@@ -92,6 +93,7 @@ fn every_run_is_safe()
     runs_answer_what_is_due();
     rebuilds_are_true();
     cleanings_are_true();
+    cleanings_take_what_is_due();
     checkpoints_are_true();
     file_answers_are_planned();
     answered_versions_are_newest();

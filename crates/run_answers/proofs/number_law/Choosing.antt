@@ -14,21 +14,12 @@ use Rattle.stripe_cleaner.specs.declared.counting.Fullness.{Fullness}
 use Rattle.xfs_base.proofs.Orders.{seg_cmp_total}
 use Rattle.xfs_base.proofs.Sorted.{sorted_insert}
 use Rattle.xfs_base.specs.declared.segment.SegName.{SegName}
-use Rattle.xfs_base.specs.declared.segment.SegRef.{SegRef}
-
--- none of these has this name
-abbrev pub NoneNamed : SegName → List SegRef → Type 0
-NoneNamed name segments = AllByRecursion (λ (s : SegRef). s.name ≡ name → ⊥) segments
-
--- no two of these have one name
-abbrev pub Apart : List SegRef → Type 0
-Apart [] = Unit {0}
-Apart (s ∷ segments) = NoneNamed s.name segments × Apart segments
+pub use Rattle.headline.specs.Cleanings.{Apart, NoneNamed}
 
 fullness_total : IsTotalOrder fullness_cmp
 fullness_total = then_total (on_total (λ (f : Fullness). f.live) nat_cmp_total) (on_total (λ (f : Fullness). f.name) seg_cmp_total)
 
-keys_put : {K X : Type 0} (P : K → Type 0) (cmp : K → K → Ordering) (es : List (K × X)) (k : K) (v : X) → P k → AllByRecursion P (keys_of es)
+pub keys_put : {K X : Type 0} (P : K → Type 0) (cmp : K → K → Ordering) (es : List (K × X)) (k : K) (v : X) → P k → AllByRecursion P (keys_of es)
     → AllByRecursion P (keys_of (insert_entry cmp es k v))
 keys_put P cmp [] k v new all = (new, tt)
 keys_put P cmp (e ∷ es) k v new all =

@@ -3,6 +3,7 @@ use Rattle.std.proofs.Common.{◌≡◌, ℕ, List, [], ◌∷◌, ◌++◌, Opt
 use Rattle.std.specs.List.{AllByRecursion, range_with_len}
 use Rattle.cleaner_job.specs.declared.job.Job.{Job}
 use Rattle.cleaner_job.specs.declared.lasting.Lasting.{Lasting}
+use Rattle.cleaner_job.specs.Jobs.{ask_of}
 use Rattle.cleaner_node.specs.CleanerEvents.{Went_to, begun_life, crash, down_at, down_wishes, happens, on_begin, opening_at, opening_wishes, phase_has_room, restart, serving_at, serving_wishes, takes, wish_at}
 use Rattle.cleaner_node.specs.declared.cleaner.Cleaner.{Cleaner}
 use Rattle.cleaner_node.specs.declared.cleaner.Phase.{Phase}
@@ -14,6 +15,7 @@ use Rattle.cleaner_serving.specs.EmptyingEvents.{begin_job, on_clean, promise_al
 use Rattle.cleaner_serving.specs.Jobs.{Done, emptying_clean, emptying_take, says, takes_in}
 use Rattle.log_owner.specs.declared.opening.Opening as openings
 use Rattle.log_owner.specs.Promised.{epoch_of}
+use Rattle.log_owner.specs.Sending.{hello}
 use Rattle.node_base.specs.Beginning.{answers_unanswered, next_item}
 use Rattle.node_base.specs.declared.effects.Effect.{Effect}
 use Rattle.node_base.specs.declared.effects.Effect.TheVariants.{Answer as Answers, Does, Lose, Send}
@@ -89,23 +91,28 @@ promises_new (slot ∷ slots) e new =
     let more = promises_new slots (promise_slot e slot).state one.job in
     record { job = more.job; outs = ap (λ (outs : List Effect). outs ++ (steps promise_slot (promise_slot e slot).state slots).outs) one.outs ∙ more.outs }
 
--- it asks for the maps
-tick_in : (e : Emptying) (o : Option Job) → e.job ≡ o → IsNew o → So (steps says (takes_in e o input.Tick).state (takes_in e o input.Tick).outs).outs
-unfolding says
-tick_in e None same new = absurd new
-tick_in e (Some job) same new =
-    subst (λ p. So (steps says (takes_in e (Some job) input.Tick).state (cleaning.phase_asking p)).outs) (sym new) (tt, tt)
+-- it asks for the maps, and does nothing else
+module _ (P : Effect → Type 0) (asks : (inc ask : ℕ) → P (hello inc ask)) where
+  tick_in : (e : Emptying) (o : Option Job) → e.job ≡ o → IsNew o → AllByRecursion P (steps says (takes_in e o input.Tick).state (takes_in e o input.Tick).outs).outs
+  unfolding says
+  tick_in e None same new = absurd new
+  tick_in e (Some job) same new =
+      subst (λ p. AllByRecursion P (steps says (takes_in e (Some job) input.Tick).state (cleaning.phase_asking p)).outs) (sym new)
+      (asks e.lasting.inc (ask_of job.hello e.lasting.questions), tt)
 
-tick_so : (e : Emptying) → IsNew e.job → So (emptying_clean e input.Tick).outs
-unfolding emptying_clean emptying_take
-tick_so e new = tick_in e e.job refl new
+  tick_so : (e : Emptying) → IsNew e.job → AllByRecursion P (emptying_clean e input.Tick).outs
+  unfolding emptying_clean emptying_take
+  tick_so e new = tick_in e e.job refl new
+
+  pub begins_asking : (e : Emptying) (number count : ℕ) → AllByRecursion P (begin_job e number count).outs
+  unfolding begin_job promise_all
+  begins_asking e number count =
+      let new = promises_new (range_with_len 0 8) (with_new_job e number count) refl in
+      all_append P (steps promise_slot (with_new_job e number count) (range_with_len 0 8)).outs _ (subst (AllByRecursion P) (sym new.outs) tt)
+      (tick_so (steps promise_slot (with_new_job e number count) (range_with_len 0 8)).state new.job)
 
 pub begins_so : (e : Emptying) (number count : ℕ) → So (begin_job e number count).outs
-unfolding begin_job promise_all
-begins_so e number count =
-    let new = promises_new (range_with_len 0 8) (with_new_job e number count) refl in
-    all_append Uncounted (steps promise_slot (with_new_job e number count) (range_with_len 0 8)).outs _ (subst So (sym new.outs) tt)
-    (tick_so (steps promise_slot (with_new_job e number count) (range_with_len 0 8)).state new.job)
+begins_so = begins_asking Uncounted (λ inc ask. tt)
 
 clean_so : (e : Emptying) (number count : ℕ) → So (on_clean e number count).outs
 unfolding on_clean

@@ -36,7 +36,7 @@ use Rattle.headline.specs.Moments.{acts_in, moment, node_named}
 use Rattle.headline.specs.Numbers.{BeganAt, IsCleaned, drops_before, drops_by, drops_in, is_cleaner}
 use Rattle.run_answers.proofs.number_law.Acting.{acting, acts_taken_in, event_begins}
 use Rattle.run_answers.proofs.number_law.Cleanings.{Uncounted, begins_uncounted}
-use Rattle.run_answers.proofs.number_law.Sweeping.{PhaseAt, PhaseOf, Sweeps, all_quiet, begin_keeps, event_sweeps}
+use Rattle.run_answers.proofs.number_law.Sweeping.{PhaseAt, PhaseOf, Sweeps, all_quiet, begin_keeps, begins_or_not, event_sweeps}
 use Rattle.run_answers.proofs.number_law.Tallies.{AnswerSo, At, CountsSo, IsNoAnswer, JobSo, act_drops, drops, none_dropped}
 use Rattle.run_answers.proofs.once_law.Runs.{node_known, runs_answer_once}
 use Rattle.run_answers.proofs.standing_law.Moments.{Idles, each_moment}
@@ -127,7 +127,7 @@ module _ (item number count : ℕ) where
 
 -- none is, where nothing is answered so
 module _ (number count : ℕ) (me : NodeId) where
-  none_so : (outs : List Effect) → AllByRecursion Uncounted outs → In (act.Answered nodes.Cleaner number (answer.Count count)) (acts_of me outs) → ⊥
+  pub none_so : (outs : List Effect) → AllByRecursion Uncounted outs → In (act.Answered nodes.Cleaner number (answer.Count count)) (acts_of me outs) → ⊥
   none_so [] all among = among
   none_so (Send to said ∷ outs) all among = none_so outs all.1 among
   none_so (Answers n a ∷ outs) all (inl same) = subst (λ (x : Answer). Uncounted (Answers n x)) (sym (same_answer n a same)) all.0
@@ -149,16 +149,16 @@ among_these a before behind acts fact = subst (λ (xs : List Act). In a xs) (sym
     there [] = inl refl
     there (x ∷ xs) = inr (there xs)
 
-no_client : (a : ℕ) → nodes.Client a ≡ nodes.Cleaner → ⊥
+pub no_client : (a : ℕ) → nodes.Client a ≡ nodes.Cleaner → ⊥
 no_client a fact = cc
 
-no_manager : (a : ℕ) → nodes.Manager a ≡ nodes.Cleaner → ⊥
+pub no_manager : (a : ℕ) → nodes.Manager a ≡ nodes.Cleaner → ⊥
 no_manager a fact = cc
 
-no_server : (a : ℕ) → nodes.Server a ≡ nodes.Cleaner → ⊥
+pub no_server : (a : ℕ) → nodes.Server a ≡ nodes.Cleaner → ⊥
 no_server a fact = cc
 
-no_registry : nodes.Registry ≡ nodes.Cleaner → ⊥
+pub no_registry : nodes.Registry ≡ nodes.Cleaner → ⊥
 no_registry fact = cc
 
 module _ (e : Estate AnyNode) where
@@ -367,16 +367,8 @@ module _ (e : Estate AnyNode) where
               so = at;
             }
 
-    turned : (what : Do) → what_of event ≡ what → PhaseOf (WorkSo (suc count)) (takes c.peers c.phase (what_of event)).state
-    turned whats.Begin fact = begins fact
-    turned (whats.Deliver packet) fact = goes_on (λ begin. no_begin (sym fact ∙ begin))
-      where
-        no_begin : whats.Deliver packet ≡ whats.Begin → ⊥
-        no_begin clash = cc
-    turned whats.Tick fact = goes_on (λ begin. no_begin (sym fact ∙ begin))
-      where
-        no_begin : whats.Tick ≡ whats.Begin → ⊥
-        no_begin clash = cc
+    turned : PhaseOf (WorkSo (suc count)) (takes c.peers c.phase (what_of event)).state
+    turned = begins_or_not (what_of event) begins goes_on
 
     -- ---- a count that it answers
 
@@ -421,7 +413,7 @@ module _ (e : Estate AnyNode) where
       by nodes.Cleaner named (any.Client c) was acts h = tt
       by nodes.Cleaner named (any.Manager m) was acts h = tt
       by nodes.Cleaner named (any.Server v) was acts h = tt
-      by nodes.Cleaner named (any.Cleaner c) was acts h = turned count event happens named c was acts h (what_of event) refl
+      by nodes.Cleaner named (any.Cleaner c) was acts h = turned count event happens named c was acts h
       by nodes.Cleaner named (any.Registry r) was acts h = tt
       by nodes.Registry named x was acts h = tt
 

@@ -108,7 +108,7 @@ seen_flag (Some seen) = seen.1
 
 -- ---- what is quiet
 
-fetches_quiet : (hand : Option Hand) → AllByRecursion Quiet (fetches hand)
+pub fetches_quiet : (hand : Option Hand) → AllByRecursion Quiet (fetches hand)
 fetches_quiet None = tt
 fetches_quiet (Some hand) = each hand.reading
   where
@@ -116,7 +116,7 @@ fetches_quiet (Some hand) = each hand.reading
     each None = tt
     each (Some r) = all_map Quiet (fetch hand.seg.name r.ask) (λ server. tt) (reading_unanswered r)
 
-stored_quiet : (o : LogOut) → AllByRecursion Quiet (stored o)
+pub stored_quiet : (o : LogOut) → AllByRecursion Quiet (stored o)
 stored_quiet (log_out.Send fragment member) = (tt, tt)
 stored_quiet (log_out.Settled end rows) = tt
 

@@ -43,7 +43,7 @@ use Rattle.run_answers.proofs.once_law.Items.{begun_open}
 
 -- ---- while its log is opened
 
-done_quiet : (owner : Owner) (x : Effect) → MayDo owner x → Quiet x
+pub done_quiet : (owner : Owner) (x : Effect) → MayDo owner x → Quiet x
 done_quiet owner (Send to said) does = tt
 done_quiet owner (Answers item a) does = absurd does
 done_quiet owner (Lose seg) does = tt
@@ -57,7 +57,7 @@ answers_quiet : (o : Option ℕ) (a : Answer) → IsNoCount a → AllByRecursion
 answers_quiet None a quiet = tt
 answers_quiet (Some item) a quiet = (quiet, tt)
 
-opened_quiet : (l : Lasting) (p : Progress) → AllByRecursion Quiet (after_opening l p).outs
+pub opened_quiet : (l : Lasting) (p : Progress) → AllByRecursion Quiet (after_opening l p).outs
 unfolding after_opening
 opened_quiet l (progress.Opening o) = tt
 opened_quiet l (progress.Opened o) =
@@ -137,11 +137,43 @@ uncounted_quiet (Does act) h = absurd h
 pub all_quiet : (outs : List Effect) → AllByRecursion Uncounted outs → AllByRecursion Quiet outs
 all_quiet outs all = all_weaker Uncounted Quiet uncounted_quiet outs all
 
+-- an event has the next item begin, or hasn't
+pub begins_or_not : {A : Type 0} (what : Do) → (what ≡ whats.Begin → A) → ((what ≡ whats.Begin → ⊥) → A) → A
+begins_or_not whats.Begin begins goes_on = begins refl
+begins_or_not (whats.Deliver packet) begins goes_on = goes_on (λ clash. cc)
+begins_or_not whats.Tick begins goes_on = goes_on (λ clash. cc)
+
+-- `S` is so of one that serves
+abbrev pub PhaseWith : (Emptying → Type 0) → Phase → Type 0
+PhaseWith S (Down l) = Unit {0}
+PhaseWith S (Opening l o) = Unit {0}
+PhaseWith S (Serving e) = S e
+
+-- one that is down, or opens its log, serves no more as an item begins
+module _ (S : Emptying → Type 0) where
+  pub down_begins : (servers : ℕ) (l : Lasting) (o : Option ℕ) → PhaseWith S (down_at servers l o).state
+  unfolding restart
+  down_begins servers l None = tt
+  down_begins servers l (Some number) = by (wish_at l.items number)
+    where
+      by : (w : Wish) → PhaseWith S (down_wishes servers l number w).state
+      by Restart = tt
+      by Crash = tt
+      by (Clean count) = tt
+
+  pub opening_begins : (l : Lasting) (x : openings.Opening) (o : Option ℕ) → PhaseWith S (opening_at l x o).state
+  unfolding crash
+  opening_begins l x None = tt
+  opening_begins l x (Some number) = by (wish_at l.items number)
+    where
+      by : (w : Wish) → PhaseWith S (opening_wishes l x number w).state
+      by Restart = tt
+      by Crash = tt
+      by (Clean count) = tt
+
 -- `P` is so of the open item and of the job of one that serves
 abbrev pub PhaseOf : (Option ℕ → Option Job → Type 0) → Phase → Type 0
-PhaseOf P (Down l) = Unit {0}
-PhaseOf P (Opening l o) = Unit {0}
-PhaseOf P (Serving e) = P e.lasting.items.unanswered e.job
+PhaseOf P p = PhaseWith (λ e. P e.lasting.items.unanswered e.job) p
 
 -- where it is so of the job that there is, and of one that begins, of which nothing is dropped yet
 module _ (P : Option ℕ → Option Job → Type 0) where
@@ -176,32 +208,12 @@ module _ (P : Option ℕ → Option Job → Type 0) where
         by None next = begun_so
         by (Some number) next = wished number next (wish_at begun.lasting.items number)
 
-  down_begins : (servers : ℕ) (l : Lasting) (o : Option ℕ) → PhaseOf P (down_at servers l o).state
-  unfolding restart
-  down_begins servers l None = tt
-  down_begins servers l (Some number) = by (wish_at l.items number)
-    where
-      by : (w : Wish) → PhaseOf P (down_wishes servers l number w).state
-      by Restart = tt
-      by Crash = tt
-      by (Clean count) = tt
-
-  opening_begins : (l : Lasting) (x : openings.Opening) (o : Option ℕ) → PhaseOf P (opening_at l x o).state
-  unfolding crash
-  opening_begins l x None = tt
-  opening_begins l x (Some number) = by (wish_at l.items number)
-    where
-      by : (w : Wish) → PhaseOf P (opening_wishes l x number w).state
-      by Restart = tt
-      by Crash = tt
-      by (Clean count) = tt
-
   begin_so : (servers : ℕ) (p : Phase) → PhaseOf P p
       → ((number : ℕ) (f : Emptying) → next_item (lasting_of p).items ≡ Some number → At number 0 f → P f.lasting.items.unanswered f.job)
       → PhaseOf P (on_begin servers p).state
   unfolding on_begin
-  begin_so servers (Down l) old new = down_begins servers (begun_life l) (next_item l.items)
-  begin_so servers (Opening l o) old new = opening_begins (begun_life l) o (next_item l.items)
+  begin_so servers (Down l) old new = down_begins (λ e. P e.lasting.items.unanswered e.job) servers (begun_life l) (next_item l.items)
+  begin_so servers (Opening l o) old new = opening_begins (λ e. P e.lasting.items.unanswered e.job) (begun_life l) o (next_item l.items)
   begin_so servers (Serving e) old new = serving_begins e old new
 
   pub begin_keeps : (c : Cleaner) → PhaseOf P c.phase

@@ -76,7 +76,7 @@ act_quiet (Dropped name) quiet = absurd quiet
 act_quiet (Answered node number a) quiet = absurd quiet
 act_quiet _ quiet = refl
 
-act_silent : (act : Act) → IsNoDrop act → IsNoAnswer act
+pub act_silent : (act : Act) → IsNoDrop act → IsNoAnswer act
 act_silent (Dropped name) quiet = absurd quiet
 act_silent (Answered node number a) quiet = absurd quiet
 act_silent _ quiet = tt

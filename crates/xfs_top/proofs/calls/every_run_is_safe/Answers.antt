@@ -22,6 +22,7 @@ returns c e setup run = record {
       rebuilds = c.rebuilds_are_true.ensures.runs e run;
       cleanings = c.cleanings_are_true.ensures.runs e run;
     };
+    takes_what_is_due = c.cleanings_take_what_is_due.ensures.runs e run;
     checkpoints_true = c.checkpoints_are_true.ensures.runs e run;
     crashes_felt = c.each_crash_is_felt.ensures.crashes e;
     in_turn = c.runs_in_turn_are_never_busy.ensures.turns e;

@@ -1,0 +1,12 @@
+mod Evidence
+mod Standing
+mod Choice
+mod Turns
+mod Readings
+mod Frames
+mod Working
+mod Telling
+mod Serving
+mod Sweeping
+mod Effects
+mod Runs
