@@ -36,7 +36,8 @@ pub record InsideIsSafe (e : Estate AnyNode) : Type 0 where
   pub wants_again : WantsAgain e
   -- and so do clients, managers and the cleaner what of their logs isn't acknowledged, recalls and polls that aren't answered, and checkpoints
   pub repeated : EachIsRepeated e
-  -- a server, a manager and the registry answer what they are asked in the event in which it comes, and a shelf changes only as it is asked to
+  -- a server, a manager, the registry and a client that serves answer what they are asked in the event in which it comes, and a shelf changes only as it is
+  -- asked to
   pub questions_answered : AnswersQuestions e
   -- what was filed, and was not deleted, stands on the servers' shelves but for lost disks, and one name has one text: in the logs of each kind of owner
   pub logs_stand : LogsStand e

@@ -36,6 +36,7 @@ pub mod ServerReplies
 pub mod RegistryReplies
 pub mod ManagerReplies
 pub mod ManagerTakes
+pub mod ClientReplies
 pub mod Replies
 pub mod Updates
 pub mod Changes

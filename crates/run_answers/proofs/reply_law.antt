@@ -3,4 +3,10 @@ mod Shelves
 mod Registries
 mod Managers
 mod Takes
+mod OpenCalls
+mod Sent
+mod Recalls
+mod Listed
+mod Polls
+mod Clients
 mod Runs

@@ -6,6 +6,7 @@ use Rattle.core_world.specs.declared.any_node.AnyNode.TheVariants as any
 use Rattle.shelf_changes.specs.Changes.{EventsChangeByOne}
 use Rattle.wire_msg.specs.declared.packet.Do.{Do}
 use Rattle.wire_msg.specs.declared.packet.Do.TheVariants.{Begin, Deliver, Tick}
+use Rattle.run_answers.proofs.reply_law.Clients.{client_answers}
 use Rattle.run_answers.proofs.reply_law.Managers.{manager_answers}
 use Rattle.run_answers.proofs.reply_law.Registries.{registry_answers}
 use Rattle.run_answers.proofs.reply_law.Servers.{server_answers}
@@ -16,7 +17,9 @@ use Rattle.run_answers.specs.reply_law.Runs.{EachQuestionIsAnswered}
 use Rattle.headline.specs.Replies.{IsReplied, KeepsShelf}
 
 replied : (node : AnyNode) (what : Do) → has_counters node ≡ true → IsReplied node what (any_step node what)
-replied (any.Client c) what far = tt
+replied (any.Client c) Begin far = tt
+replied (any.Client c) (Deliver packet) far = λ well. client_answers c packet far well
+replied (any.Client c) Tick far = tt
 replied (any.Manager m) Begin far = tt
 replied (any.Manager m) (Deliver packet) far = λ well. (manager_answers m packet far well, manager_takes m packet far well)
 replied (any.Manager m) Tick far = tt
