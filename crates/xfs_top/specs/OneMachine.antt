@@ -17,7 +17,7 @@ pub record CallsAsOne (e : Estate AnyNode) : Type 0 where
   pub alone : AreCalls e.script.lines → BeginsAlone e → AreDone e.world.acts → open_items e ≡ 0 → IsAsOneMachine e
   -- and where all are of one client, its answers and the end line tell all that is asked: none is open at the end, and no answer is one of these
   pub of_one : (client : ℕ) → AllByRecursion (λ node. node ≡ nodes.Client client) (actors_of e.script.lines) → AreCalls e.script.lines → AreDone e.world.acts → open_items e ≡ 0
-         → IsAsOneMachine e
+      → IsAsOneMachine e
 
 -- What is claimed of the run of a command: where each line of its script after the setup is a bput, a bget or a sync, the text is the one machine's, with no premise
 -- more; but of no run with boards. And so it is where the items are calls that begin alone, whatever the network does and whichever boards and servers stop. Of runs
