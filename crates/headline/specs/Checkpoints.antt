@@ -1,7 +1,6 @@
 -- What a checkpoint counts: its manager goes over all slots, in order, and passes over none that it manages then; it tells the registry that the slot's checkpoint
 -- is written, and counts the slot where the first answer to that names the epoch in which it was written.
-use Rattle.std.specs.Prelude.{◌≡◌, ◌⊎◌, ◌<◌, ◌≤◌, ℕ, suc, true, List, Option, Some, None, drop, length, slice_get}
-use Rattle.core_world.specs.AnyNode.{any_step}
+use Rattle.std.specs.Prelude.{◌≡◌, ◌⊎◌, ◌<◌, ◌≤◌, ℕ, suc, true, Option, Some, None, slice_get}
 use Rattle.core_world.specs.declared.any_node.AnyNode.{AnyNode}
 use Rattle.core_world.specs.declared.any_node.AnyNode.TheVariants as any
 use Rattle.manager_node.specs.declared.manager.Manager.{Manager}
@@ -20,18 +19,13 @@ use Rattle.wire_msg.specs.declared.registry.CkptDone.{CkptDone}
 use Rattle.world_base.specs.declared.estate.Estate.{Estate}
 use Rattle.world_base.specs.declared.event.Event.{Event}
 use Rattle.world_base.specs.declared.event.Event.TheVariants.{Deliver}
-use Rattle.world_base.specs.declared.world.World.{World}
-use Rattle.world_base.specs.NextWorld.{next_world}
 use Rattle.xfs_base.specs.declared.node.NodeId.TheVariants as nodes
 use Rattle.xfs_base.specs.Limits.{slot_count}
 use Rattle.headline.specs.Dues.{PassesClocks, has_counters}
 use Rattle.headline.specs.Managers.{active_at}
 use Rattle.headline.specs.Moments.{acts_in, moment, node_named}
+pub use Rattle.headline.specs.Moments.{sent_in}
 use Rattle.headline.specs.Numbers.{BeganAt}
-
--- the packets that an event adds
-abbrev pub sent_in : World AnyNode → Event → List Packet
-sent_in w event = drop (length w.sent) (next_world any_step w event).sent
 
 abbrev pub done_of : Option Checkpointing → Option CkptDone
 done_of None = None

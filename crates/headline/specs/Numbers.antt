@@ -40,7 +40,7 @@ use Rattle.xfs_base.specs.declared.node.NodeId.TheVariants as nodes
 use Rattle.xfs_base.specs.declared.segment.SegName.{SegName}
 use Rattle.xfs_base.specs.Limits.{u32_end}
 use Rattle.headline.specs.Items.{items_in}
-use Rattle.headline.specs.Moments.{acts_in, moment, node_named}
+use Rattle.headline.specs.Moments.{acts_in, moment, node_named, sent_in}
 use Rattle.headline.specs.Servers.{shelf_at}
 
 -- by name, what servers that told such lists say of their fragments
@@ -76,15 +76,37 @@ module _ (e : Estate AnyNode) (server begun end : ℕ) where
     pub from_it : packet.from ≡ nodes.Server from
     pub says : packet.body ≡ said
 
-  -- what another server told of its fragment of a segment: the fragment, or that it has none, and its generation
-  abbrev pub HasTold : ℕ → Told → Type 0
-  HasTold from (told.Held fragment) = (found : Found) × HasCome from (body.Fragment found) × (found.fragment ≡ fragment)
-  HasTold from (told.Missing generation) = (missing : Missing) × HasCome from (body.Missing missing) × (missing.generation ≡ generation)
+  -- it asked another server for its fragment of a segment, under a question
+  pub record HasAsked (name : SegName) (ask other : ℕ) : Type 0 where
+    pub place : ℕ
+    pub since : begun < place
+    pub before : place < end
+    pub event : Event
+    pub happens : slice_get e.events place ≡ Some event
+    pub packet : Packet
+    pub sent : In packet (sent_in (moment e place) event)
+    pub from_it : packet.from ≡ nodes.Server server
+    pub to_other : packet.to ≡ nodes.Server other
+    pub says : packet.body ≡ body.Fetch (record { name = name; ask = ask })
 
-  -- So a round over the other members of a segment's group stands, by what these told: each fragment in it is one of the segment.
+-- of a server, by the events behind the one at a place and before the one at another
+module _ (e : Estate AnyNode) (server begun end : ℕ) where
+  -- Another server had been asked for its fragment of a segment, under a question, and then told under that question: the fragment, or that it has none, and its
+  -- generation.
+  abbrev pub HasTold : SegName → ℕ → ℕ → Told → Type 0
+  HasTold name ask from (told.Held fragment) =
+      (found : Found) × (come : HasCome e server begun end from (body.Fragment found)) × HasAsked e server begun come.place name ask from × (found.ask ≡ ask)
+      × (found.fragment ≡ fragment)
+  HasTold name ask from (told.Missing generation) =
+      (missing : Missing) × (come : HasCome e server begun end from (body.Missing missing)) × HasAsked e server begun come.place name ask from
+      × (missing.ask ≡ ask) × (missing.generation ≡ generation)
+
+  -- So a round over the other members of a segment's group stands, under one question, by what these told when they were asked for just this segment: each
+  -- fragment in it is one of the segment.
   pub record RoundStands (w : Wanted) (stands : RoundState) : Type 0 where
+    pub ask : ℕ
     pub replies : List Reply
-    pub come : AllByRecursion (λ (r : Reply). HasTold r.server r.told) replies
+    pub come : AllByRecursion (λ (r : Reply). HasTold w.meta.name ask r.server r.told) replies
     pub fit : AllByRecursion (IsReplyOf w) replies
     pub is : state_of (record { n = w.n; parity = w.parity; servers = w.others; answers = replies }) ≡ stands
 

@@ -1,5 +1,5 @@
 -- What each event makes of the rebuild of a server, whatever comes to it.
-use Rattle.std.proofs.Common.{◌≡◌, ◌<◌, ◌==◌, ◌&&◌, cond, ℕ, suc, true, [], ◌∷◌, Option, Some, None, is_some, slice_get, refl, sym, ap, subst, arith}
+use Rattle.std.proofs.Common.{◌≡◌, ◌<◌, ◌==◌, ◌&&◌, not, cond, ℕ, suc, Bool, true, false, [], ◌∷◌, Option, Some, None, is_some, slice_get, refl, sym, ap, subst, arith}
 use Rattle.std.proofs.lemmas.Bool.{eqb-true}
 use Rattle.std.specs.List.{AllByRecursion}
 use Rattle.std.specs.Ordering.{is_eq}
@@ -9,13 +9,15 @@ use Rattle.fragment_store.specs.Calls.{barred, on_fence as fenced_at, refusal}
 use Rattle.fragment_store.specs.ShelfState.{fence_of}
 use Rattle.group_map.specs.GroupMapState.{GroupMapState}
 use Rattle.group_rebuild.specs.declared.input.In.TheVariants as input
-use Rattle.group_rebuild.specs.Transition.{on_tick as time_passes}
+use Rattle.node_base.specs.Asking.{own_of}
 use Rattle.node_base.specs.Beginning.{answers_unanswered, items_begin, next_item, work_at}
 use Rattle.node_base.specs.declared.effects.Effect.TheVariants.{Answer as Answers}
 use Rattle.node_base.specs.declared.maps.Maps.{Maps}
+use Rattle.node_base.specs.declared.questions.Asked.{Asked}
 use Rattle.node_base.specs.Known.{names_known_groups}
 use Rattle.node_base.specs.Maps.{fits, is_older, maps_take}
 use Rattle.node_base.specs.Shape.{is_well_formed}
+use Rattle.node_moves.proofs.client_walk.Frames.{all_behind}
 use Rattle.store_nodes.specs.declared.server.Rebuilding.{Rebuilding}
 use Rattle.store_nodes.specs.declared.server.Server.{Server as Node}
 use Rattle.store_nodes.specs.declared.server.Wish.{Wish}
@@ -40,7 +42,7 @@ use Rattle.wire_msg.specs.declared.storage.Store.{Store}
 use Rattle.world_base.specs.declared.estate.Estate.{Estate}
 use Rattle.world_base.specs.declared.event.Event.TheVariants.{Begin, Deliver}
 use Rattle.xfs_base.proofs.Alls.{all_append}
-use Rattle.xfs_base.proofs.Booleans.{by_test}
+use Rattle.xfs_base.proofs.Booleans.{and_second, by_test}
 use Rattle.xfs_base.specs.declared.node.NodeId.{NodeId}
 use Rattle.xfs_base.specs.declared.node.NodeId.TheVariants as nodes
 use Rattle.xfs_base.specs.Segments.{pass_cmp}
@@ -48,7 +50,7 @@ use Rattle.xfs_base.specs.Steps.{still}
 use Rattle.headline.specs.Moments.{moment, node_named}
 use Rattle.headline.specs.Numbers.{HasCome}
 use Rattle.headline.specs.Servers.{shelf_at}
-use Rattle.run_answers.proofs.number_law.Asking.{EffectSo, Leads, asks_lead, repeats_ask}
+use Rattle.run_answers.proofs.number_law.Asking.{Acted, EffectSo, Leads, repeats_lead}
 use Rattle.run_answers.proofs.number_law.Running.{NodeSo, SoFar, so_later}
 use Rattle.run_answers.proofs.number_law.Taking.{listed, tells as answers_tell}
 use Rattle.run_answers.proofs.once_law.Items.{begun_open}
@@ -60,6 +62,14 @@ server_is (nodes.Manager n) server fact = absurd cc
 server_is nodes.Cleaner server fact = absurd cc
 server_is nodes.Registry server fact = absurd cc
 
+-- what answers the rebuild's question is under the number that is out
+its_question : (fetches : Asked) (ask own : ℕ) → own_of fetches ask ≡ Some own → ask ≡ fetches.ask
+its_question fetches ask own fact = by (not (fetches.own == 0) && (ask == fetches.ask)) refl fact
+  where
+    by : (t : Bool) → (not (fetches.own == 0) && (ask == fetches.ask)) ≡ t → cond t (Some fetches.own) None ≡ Some own → ask ≡ fetches.ask
+    by true is fact = eqb-true ask fetches.ask (and_second (not (fetches.own == 0)) (ask == fetches.ask) is)
+    by false is fact = absurd cc
+
 groups_taken : (maps : Maps) (news : News) → is_older maps news ≡ true → (maps_take maps news).groups ≡ Some news.groups
 groups_taken maps news newer = ap (λ t. (cond t (record maps { version = news.version; groups = Some news.groups }) maps).groups) newer
 
@@ -69,16 +79,14 @@ module _ (e : Estate AnyNode) (v count : ℕ) where
 
   -- it stays so, and no item is answered
   stays : (node : Node) → NodeSo e v (suc count) node → Leads e v count (still node)
-  stays node h = record { state = h; outs = tt }
+  stays node h = λ acted. record { state = h; outs = tt }
 
   -- ---- time passes
 
   time_leads : (node : Node) (r : Option Rebuilding) → NodeSo e v (suc count) node → SoFar e v (suc count) node.items.unanswered node.maps.groups r
       → Leads e v count (goes_on node r input.Tick)
   time_leads node None h so = stays node h
-  time_leads node (Some r) h so =
-      asks_lead e v count (time_passes r.rebuild) (record node { rebuilding = Some (record r { rebuild = r.rebuild }) })
-      (repeats_ask e v count r.rebuild r.rebuild.reads) so
+  time_leads node (Some r) h so = λ acted. repeats_lead e v count node (record r { rebuild = r.rebuild }) so r.rebuild.reads refl
 
   tick_leads : (node : Node) → NodeSo e v (suc count) node → Leads e v count (rebuilds node input.Tick)
   unfolding rebuilds
@@ -98,7 +106,7 @@ module _ (e : Estate AnyNode) (v count : ℕ) where
         → SoFar e v (suc count) node.items.unanswered node.maps.groups r → Leads e v count (goes_on mapped r (input.Maps news.groups))
     maps_lead newer None same so =
         stays mapped (subst (λ (o : Option Rebuilding). SoFar e v (suc count) node.items.unanswered (maps_take node.maps news).groups o) (sym same) tt)
-    maps_lead newer (Some r) same so = record {
+    maps_lead newer (Some r) same so = λ acted. record {
       state = record {
         item = so.item;
         waits = so.waits;
@@ -138,7 +146,7 @@ module _ (e : Estate AnyNode) (v count : ℕ) where
 
       loses : (item : ℕ) → Leads e v count (on_lose begun item)
       unfolding on_lose
-      loses item = record {
+      loses item = λ acted. record {
         state = tt;
         outs = all_append (EffectSo e v count) (answers_unanswered begun.items.unanswered answers.Cut) _
             (cut_plain begun.items.unanswered answers.Cut (λ n. tt)) (tt, (tt, tt));
@@ -165,7 +173,7 @@ module _ (e : Estate AnyNode) (v count : ℕ) where
       wished item next Lose = loses item
       wished item next Rebuild =
           by_test (Leads e v count) (is_some begun.items.unanswered) (tells begun (Answers item answers.Busy ∷ []))
-          (begins_rebuild begun item begun.maps.groups) (λ _. record { state = begun_so; outs = (tt, tt) })
+          (begins_rebuild begun item begun.maps.groups) (λ _ acted. record { state = begun_so; outs = (tt, tt) })
           (λ _. rebuild_begins item next node.maps.groups refl)
       wished item next Other = stays begun begun_so
 
@@ -181,7 +189,7 @@ module _ (e : Estate AnyNode) (v count : ℕ) where
 
     module _ (its : node_named (moment e count) (nodes.Server v) ≡ Some (any.Server node)) (packet : Packet)
         (happens : slice_get e.events count ≡ Some (Deliver packet)) (to_it : packet.to ≡ nodes.Server v) where
-      come : (begun : ℕ) → begun < count → (from : ℕ) → server_in packet.from ≡ Some from → (said : Body) → packet.body ≡ said
+      abbrev come : (begun : ℕ) → begun < count → (from : ℕ) → server_in packet.from ≡ Some from → (said : Body) → packet.body ≡ said
           → HasCome e v begun (suc count) from said
       come begun since from sender said says = record {
         place = count;
@@ -210,42 +218,44 @@ module _ (e : Estate AnyNode) (v count : ℕ) where
       found_lead : (from : Option ℕ) (m : Found) → server_in packet.from ≡ from → packet.body ≡ body.Fragment m → Goes (on_found node from m)
       unfolding on_found rebuilds
       found_lead None m sender says at = stays node later
-      found_lead (Some server) m sender says at = by (fetch_of node.rebuilding m.ask) at
+      found_lead (Some server) m sender says at = by (fetch_of node.rebuilding m.ask) refl at
         where
-          with_it : (own : ℕ) (r : Option Rebuilding) → SoFar e v count node.items.unanswered node.maps.groups r
+          with_it : (own : ℕ) (r : Option Rebuilding) → fetch_of r m.ask ≡ Some own → SoFar e v count node.items.unanswered node.maps.groups r
               → Goes (goes_on node r (input.Got own server m.generation m.fragment))
-          with_it own None h at = stays node later
-          with_it own (Some r) h at =
-              answers_tell e v count node r h server own (told.Held m.fragment) (m, come h.begun h.since server sender (body.Fragment m) says, refl) at
+          with_it own None fact h at = stays node later
+          with_it own (Some r) fact h at =
+              answers_tell e v count node r h server own (told.Held m.fragment)
+              (λ name asked. (m, come h.begun h.since server sender (body.Fragment m) says, asked, its_question r.fetches m.ask own fact, refl)) at
 
-          by : (own : Option ℕ) → Goes (found_for node server m own)
-          by None at = stays node later
-          by (Some own) at = with_it own node.rebuilding so at
+          by : (own : Option ℕ) → fetch_of node.rebuilding m.ask ≡ own → Goes (found_for node server m own)
+          by None fact at = stays node later
+          by (Some own) fact at = with_it own node.rebuilding fact so at
 
       missing_lead : (from : Option ℕ) (m : Missing) → server_in packet.from ≡ from → packet.body ≡ body.Missing m → Goes (on_missing node from m)
       unfolding on_missing rebuilds
       missing_lead None m sender says at = stays node later
-      missing_lead (Some server) m sender says at = by (fetch_of node.rebuilding m.ask) at
+      missing_lead (Some server) m sender says at = by (fetch_of node.rebuilding m.ask) refl at
         where
-          with_it : (own : ℕ) (r : Option Rebuilding) → SoFar e v count node.items.unanswered node.maps.groups r
+          with_it : (own : ℕ) (r : Option Rebuilding) → fetch_of r m.ask ≡ Some own → SoFar e v count node.items.unanswered node.maps.groups r
               → Goes (goes_on node r (input.Missing own server m.generation))
-          with_it own None h at = stays node later
-          with_it own (Some r) h at =
-              answers_tell e v count node r h server own (told.Missing m.generation) (m, come h.begun h.since server sender (body.Missing m) says, refl) at
+          with_it own None fact h at = stays node later
+          with_it own (Some r) fact h at =
+              answers_tell e v count node r h server own (told.Missing m.generation)
+              (λ name asked. (m, come h.begun h.since server sender (body.Missing m) says, asked, its_question r.fetches m.ask own fact, refl)) at
 
-          by : (own : Option ℕ) → Goes (missing_for node server m own)
-          by None at = stays node later
-          by (Some own) at = with_it own node.rebuilding so at
+          by : (own : Option ℕ) → fetch_of node.rebuilding m.ask ≡ own → Goes (missing_for node server m own)
+          by None fact at = stays node later
+          by (Some own) fact at = with_it own node.rebuilding fact so at
 
       store_leads : (m : Store) → Leads e v count (on_store node packet.from m)
       unfolding on_store
       store_leads m =
           by_test (Leads e v count) (is_some (refusal node.shelf m.fragment.meta.name m.generation)) (still node) _ (λ _. stays node later)
-          (λ _. record { state = later; outs = (tt, tt) })
+          (λ _ acted. record { state = later; outs = (tt, tt) })
 
       fence_leads : (m : Fence) → Leads e v count (on_fence node packet.from m)
       unfolding on_fence
-      fence_leads m = record {
+      fence_leads m = λ acted. record {
         state = later;
         outs = by_test (AllByRecursion (EffectSo e v count))
             (is_eq (pass_cmp (fence_of (fenced_at node.shelf m.log m.pass).fences m.log) m.pass)) _ [] (λ _. (tt, tt)) (λ _. tt);
@@ -254,10 +264,10 @@ module _ (e : Estate AnyNode) (v count : ℕ) where
       heard : (said : Body) → packet.body ≡ said → Goes (hears node packet.from said)
       unfolding on_delete
       heard (body.Store m) says at = store_leads m
-      heard (body.Fetch m) says at = record { state = later; outs = (tt, tt) }
+      heard (body.Fetch m) says at = λ acted. record { state = later; outs = (tt, tt) }
       heard (body.Fence m) says at = fence_leads m
-      heard (body.List m) says at = record { state = later; outs = (tt, tt) }
-      heard (body.Delete m) says at = record { state = later; outs = (tt, tt) }
+      heard (body.List m) says at = λ acted. record { state = later; outs = (tt, tt) }
+      heard (body.Delete m) says at = λ acted. record { state = later; outs = (tt, tt) }
       heard (body.Listed m) says at = lists_lead (server_in packet.from) m refl says at
       heard (body.Fragment m) says at = found_lead (server_in packet.from) m refl says at
       heard (body.Missing m) says at = missing_lead (server_in packet.from) m refl says at
@@ -267,7 +277,7 @@ module _ (e : Estate AnyNode) (v count : ℕ) where
       unfolding asks_for_maps
       heard_known said says =
           by_test Goes (names_known_groups node.maps said) (hears node packet.from said) (asks_for_maps node) (λ _. heard said says)
-          (λ _ at. record { state = later; outs = (tt, tt) })
+          (λ _ at acted. record { state = later; outs = (tt, tt) })
 
       welcomed : (m : Welcome) → Leads e v count (on_welcome node m)
       unfolding on_welcome
@@ -291,8 +301,8 @@ module _ (e : Estate AnyNode) (v count : ℕ) where
 
     tick_goes : Leads e v count (on_tick node)
     unfolding on_tick
-    tick_goes =
-        let h = tick_leads node later in
+    tick_goes = λ acted.
+        let h = tick_leads node later (all_behind (Acted e v count) (hello_again node node.hello) (rebuilds node input.Tick).outs acted) in
         record { state = h.state; outs = all_append (EffectSo e v count) (hello_again node node.hello) _ (said_again node node.hello) h.outs }
 
     module _ (its : node_named (moment e count) (nodes.Server v) ≡ Some (any.Server node)) (number : node.number ≡ v) where

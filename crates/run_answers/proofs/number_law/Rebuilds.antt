@@ -1,12 +1,13 @@
 -- In every run what a server answers of its rebuild is true.
-use Rattle.std.proofs.Common.{◌≡◌, ℕ, suc, List, [], ◌∷◌, Some, slice_get, inl, inr, refl, sym, ap, subst, ◌∙◌}
+use Rattle.std.proofs.Common.{◌≡◌, ◌⊎◌, ℕ, suc, List, [], ◌∷◌, Some, drop, length, map, slice_get, inl, inr, refl, sym, ap, subst, ◌∙◌, arith}
+use Rattle.std.proofs.Math.Seq.{drop-append_seam, drop-length}
 use Rattle.std.specs.List.{AllByRecursion}
 use Rattle.core_world.specs.AnyNode.{any_start, any_step}
 use Rattle.core_world.specs.declared.any_node.AnyNode.{AnyNode}
 use Rattle.core_world.specs.declared.any_node.AnyNode.TheVariants as any
 use Rattle.node_base.specs.declared.effects.Effect.{Effect}
 use Rattle.node_base.specs.declared.effects.Effect.TheVariants.{Answer as Answers, Does, Lose, Send}
-use Rattle.node_base.specs.Effects.{acts_of}
+use Rattle.node_base.specs.Effects.{acts_of, packets_of}
 use Rattle.store_nodes.specs.declared.server.Server.{Server as Node}
 use Rattle.store_nodes.specs.ServerEvents.{takes}
 use Rattle.token_protocol.specs.Basics.{In}
@@ -14,23 +15,33 @@ use Rattle.version_model.specs.declared.act.Act.{Act}
 use Rattle.version_model.specs.declared.act.Act.TheVariants as act
 use Rattle.version_model.specs.declared.answer.Answer.{Answer}
 use Rattle.version_model.specs.declared.answer.Answer.TheVariants as answer
+use Rattle.wire_msg.specs.declared.body.Body.{Body}
+use Rattle.wire_msg.specs.declared.body.Body.TheVariants as body
+use Rattle.wire_msg.specs.declared.packet.Packet.{Packet}
+use Rattle.wire_msg.specs.declared.storage.Fetch.{Fetch}
 use Rattle.world_base.specs.declared.estate.Estate.{Estate}
 use Rattle.world_base.specs.declared.event.Event.{Event}
+use Rattle.world_base.specs.declared.world.World.{World}
 use Rattle.world_base.specs.Events.{node_of, what_of}
 use Rattle.world_base.specs.Items.{items_of}
+use Rattle.world_base.specs.NextWorld.{sent_at}
 use Rattle.world_base.specs.Runs.{IsRun}
 use Rattle.xfs_base.specs.declared.node.NodeId.{NodeId}
 use Rattle.xfs_base.specs.declared.node.NodeId.TheVariants as nodes
-use Rattle.run_laws.proofs.world_reads.Taking.{Took}
-use Rattle.headline.specs.Moments.{acts_in, moment, node_named}
+use Rattle.run_laws.proofs.world_reads.Taking.{Took, moment_next}
+use Rattle.headline.specs.Dues.{NothingComes, TakesTurn}
+use Rattle.headline.specs.Moments.{acts_in, moment, node_named, sent_in}
 use Rattle.headline.specs.Numbers.{IsRebuilt}
 use Rattle.headline.specs.Servers.{shelf_of}
+use Rattle.run_answers.proofs.due_law.Runs.{turn, turns_or_ends}
 use Rattle.run_answers.proofs.number_law.Acting.{acting, event_begins, event_delivers, node_behind}
-use Rattle.run_answers.proofs.number_law.Asking.{AnswerSo, EffectSo, Leads}
+use Rattle.run_answers.proofs.number_law.Asking.{Acted, AnswerSo, AskSo, AsksNow, EffectSo, Led, SentSo}
 use Rattle.run_answers.proofs.number_law.Events.{event_leads}
 use Rattle.run_answers.proofs.number_law.Running.{NodeSo, so_later}
 use Rattle.run_answers.proofs.once_law.Runs.{node_known, runs_answer_once}
+use Rattle.run_answers.proofs.repeat_law.Among.{in_map}
 use Rattle.run_answers.proofs.standing_law.Moments.{each_moment}
+use Rattle.run_answers.proofs.wait_law.Again.{sent}
 use Rattle.run_answers.specs.number_law.Runs.{EachRunsRebuildsAreTrue}
 
 no_client : (a b : ℕ) → nodes.Client a ≡ nodes.Server b → ⊥
@@ -107,33 +118,95 @@ module _ (e : Estate AnyNode) where
 
   module _ (count : ℕ) (event : Event) (happens : slice_get e.events count ≡ Some event) (v : ℕ) (named : node_of event ≡ nodes.Server v) (node : Node)
       (was : node_named (moment e count) (nodes.Server v) ≡ Some (any.Server node))
-      (is : node_named (moment e (suc count)) (nodes.Server v) ≡ Some (any_step (any.Server node) (what_of event)).node) (h : NodeSo e v count node) where
-    leads : Leads e v count (takes node (what_of event))
+      (is : node_named (moment e (suc count)) (nodes.Server v) ≡ Some (any_step (any.Server node) (what_of event)).node)
+      (took : TakesTurn e count event (any.Server node)) (h : NodeSo e v count node) where
+    abbrev outs : List Effect
+    outs = (takes node (what_of event)).outs
+
+    number : node.number ≡ v
+    number = one_server node.number v (node_known e count (nodes.Server v) (any.Server node) was).named
+
+    abbrev asking : ℕ → Fetch → Packet
+    asking other m = record { from = nodes.Server node.number; to = nodes.Server other; clock = 0; body = body.Fetch m }
+
+    added : sent_in (moment e count) event ≡ map (sent_at took.clock) (packets_of (nodes.Server node.number) outs)
+    added =
+        ap (drop (length (moment e count).sent)) (ap (λ (w : World AnyNode). w.sent) (sym (moment_next e count event happens)) ∙ took.sent)
+        ∙ drop-append_seam (moment e count).sent (map (sent_at took.clock) (packets_of (nodes.Server node.number) outs))
+
+    asks_now : (other : ℕ) (m : Fetch) → In (Send (nodes.Server other) (body.Fetch m)) outs → AsksNow e v count other m
+    asks_now other m among = λ begun since. record {
+      place = count;
+      since = since;
+      before = omega arith;
+      event = event;
+      happens = happens;
+      packet = sent_at took.clock (asking other m);
+      sent = subst (λ (packets : List Packet). In (sent_at took.clock (asking other m)) packets) (sym added)
+          (in_map (sent_at took.clock) (asking other m) (packets_of (nodes.Server node.number) outs)
+          (sent (nodes.Server node.number) (nodes.Server other) (body.Fetch m) outs among));
+      from_it = ap nodes.Server number;
+      to_other = refl;
+      says = refl;
+    }
+
+    said_so : (other : ℕ) (said : Body) → In (Send (nodes.Server other) said) outs → AskSo e v count other said
+    said_so other (body.Fetch m) among = asks_now other m among
+    said_so other _ among = tt
+
+    sent_so : (to : NodeId) (said : Body) → In (Send to said) outs → SentSo e v count to said
+    sent_so (nodes.Server other) said among = said_so other said among
+    sent_so (nodes.Client k) said among = tt
+    sent_so (nodes.Manager k) said among = tt
+    sent_so nodes.Cleaner said among = tt
+    sent_so nodes.Registry said among = tt
+
+    -- what it does it does in this event
+    all_acted : (xs : List Effect) → ((x : Effect) → In x xs → In x outs) → AllByRecursion (Acted e v count) xs
+    all_acted [] within = tt
+    all_acted (Send to said ∷ xs) within = (sent_so to said (within (Send to said) (inl refl)), all_acted xs (λ x among. within x (inr among)))
+    all_acted (Answers n a ∷ xs) within = (tt, all_acted xs (λ x among. within x (inr among)))
+    all_acted (Lose seg ∷ xs) within = (tt, all_acted xs (λ x among. within x (inr among)))
+    all_acted (Does act ∷ xs) within = (tt, all_acted xs (λ x among. within x (inr among)))
+
+    leads : Led e v count (takes node (what_of event))
     leads =
-        event_leads e v count node h was (one_server node.number v (node_known e count (nodes.Server v) (any.Server node) was).named) (what_of event)
-        (λ begins. happens ∙ ap Some (event_begins event (nodes.Server v) named begins))
+        event_leads e v count node h was number (what_of event) (λ begins. happens ∙ ap Some (event_begins event (nodes.Server v) named begins))
         (λ packet comes. (
           happens ∙ ap Some (event_delivers event packet comes),
           ap node_of (sym (event_delivers event packet comes)) ∙ named,
         ))
-        (ap shelf_of is)
+        (ap shelf_of is) (all_acted outs (λ x among. among))
+
+  one_node : (a b : AnyNode) → Some a ≡ Some b → a ≡ b
+  one_node a b fact = cc
 
   turns : (count : ℕ) (event : Event) → slice_get e.events count ≡ Some event → (x : AnyNode) → node_named (moment e count) (node_of event) ≡ Some x
       → Took (moment e count) event x → Stands count (node_of event) x → Stands (suc count) (node_of event) (any_step x (what_of event)).node
-  turns count event happens x was took h = by (node_of event) refl x was (node_behind e count event happens x took) h
+  turns count event happens x was took h = by (turn e count event happens x was (turns_or_ends (moment e count) event x was))
     where
-      by : (name : NodeId) → node_of event ≡ name → (x : AnyNode) → node_named (moment e count) name ≡ Some x
-          → node_named (moment e (suc count)) name ≡ Some (any_step x (what_of event)).node → Stands count name x
+      behind : node_named (moment e (suc count)) (node_of event) ≡ Some (any_step x (what_of event)).node
+      behind = node_behind e count event happens x took
+
+      by_name : (name : NodeId) → node_of event ≡ name → (x : AnyNode) → node_named (moment e count) name ≡ Some x
+          → node_named (moment e (suc count)) name ≡ Some (any_step x (what_of event)).node → TakesTurn e count event x → Stands count name x
           → Stands (suc count) name (any_step x (what_of event)).node
-      by (nodes.Client k) named x was is h = tt
-      by (nodes.Manager k) named x was is h = tt
-      by (nodes.Server v) named (any.Client c) was is h = tt
-      by (nodes.Server v) named (any.Manager m) was is h = tt
-      by (nodes.Server v) named (any.Server node) was is h = (leads count event happens v named node was is h).state
-      by (nodes.Server v) named (any.Cleaner c) was is h = tt
-      by (nodes.Server v) named (any.Registry r) was is h = tt
-      by nodes.Cleaner named x was is h = tt
-      by nodes.Registry named x was is h = tt
+      by_name (nodes.Client k) named x was is turned h = tt
+      by_name (nodes.Manager k) named x was is turned h = tt
+      by_name (nodes.Server v) named (any.Client c) was is turned h = tt
+      by_name (nodes.Server v) named (any.Manager m) was is turned h = tt
+      by_name (nodes.Server v) named (any.Server node) was is turned h = (leads count event happens v named node was is turned h).state
+      by_name (nodes.Server v) named (any.Cleaner c) was is turned h = tt
+      by_name (nodes.Server v) named (any.Registry r) was is turned h = tt
+      by_name nodes.Cleaner named x was is turned h = tt
+      by_name nodes.Registry named x was is turned h = tt
+
+      by : NothingComes e count event ⊎ TakesTurn e count event x → Stands (suc count) (node_of event) (any_step x (what_of event)).node
+      by (inl none) =
+          let here : node_named (moment e (suc count)) (node_of event) ≡ Some x =
+          ap (λ (w : World AnyNode). node_named w (node_of event)) none.stays ∙ was in
+          subst (Stands (suc count) (node_of event)) (one_node x (any_step x (what_of event)).node (sym here ∙ behind)) (later count (node_of event) x h)
+      by (inr turned) = by_name (node_of event) refl x was behind turned h
 
   stands_at : (count : ℕ) (name : NodeId) (x : AnyNode) → node_named (moment e count) name ≡ Some x → Stands count name x
   stands_at = each_moment Stands e starts (λ count name x idles h. later count name x h) turns
@@ -145,20 +218,27 @@ module _ (e : Estate AnyNode) where
         let a = acting e count event happens _ acted in
         let own : nodes.Server v ≡ node_of event =
         ((runs_answer_once e run).own count event happens (nodes.Server v) item (answer.Rebuilt filled gone) acted).own in
-        by a.x (node_of event) (sym own) refl a.was a.is a.among
+        by a.x (node_of event) (sym own) refl a.was a.is (turn e count event happens a.x a.was (turns_or_ends (moment e count) event a.x a.was)) a.among
       where
+        none_acted : NothingComes e count event → acts_in (moment e count) event ≡ []
+        none_acted none =
+            ap (λ (w : World AnyNode). drop (length (moment e count).acts) w.acts) (sym (moment_next e count event happens) ∙ none.stays)
+            ∙ drop-length (moment e count).acts
+
         by : (x : AnyNode) (name : NodeId) → name ≡ nodes.Server v → node_of event ≡ name → node_named (moment e count) name ≡ Some x
-            → node_named (moment e (suc count)) name ≡ Some (any_step x (what_of event)).node
+            → node_named (moment e (suc count)) name ≡ Some (any_step x (what_of event)).node → NothingComes e count event ⊎ TakesTurn e count event x
             → In (act.Answered (nodes.Server v) item (answer.Rebuilt filled gone)) (any_step x (what_of event)).acts → IsRebuilt e count v item filled gone
-        by (any.Server node) name same named was is among =
+        by x name same named was is (inl none) among =
+            absurd (subst (λ (xs : List Act). In (act.Answered (nodes.Server v) item (answer.Rebuilt filled gone)) xs) (none_acted none) acted)
+        by (any.Server node) name same named was is (inr turned) among =
             let was_v = subst (λ (n : NodeId). node_named (moment e count) n ≡ Some (any.Server node)) same was in
             let is_v = subst (λ (n : NodeId). node_named (moment e (suc count)) n ≡ Some (any_step (any.Server node) (what_of event)).node) same is in
             acts_so e v count item filled gone (nodes.Server node.number) (takes node (what_of event)).outs
-            (leads count event happens v (named ∙ same) node was_v is_v (stands_at count (nodes.Server v) (any.Server node) was_v)).outs among
-        by (any.Client c) name same named was is among = absurd (no_client _ v ((node_known e count name (any.Client c) was).named ∙ same))
-        by (any.Manager m) name same named was is among = absurd (no_manager _ v ((node_known e count name (any.Manager m) was).named ∙ same))
-        by (any.Cleaner c) name same named was is among = absurd (no_cleaner v ((node_known e count name (any.Cleaner c) was).named ∙ same))
-        by (any.Registry r) name same named was is among = absurd (no_registry v ((node_known e count name (any.Registry r) was).named ∙ same))
+            (leads count event happens v (named ∙ same) node was_v is_v turned (stands_at count (nodes.Server v) (any.Server node) was_v)).outs among
+        by (any.Client c) name same named was is (inr turned) among = absurd (no_client _ v ((node_known e count name (any.Client c) was).named ∙ same))
+        by (any.Manager m) name same named was is (inr turned) among = absurd (no_manager _ v ((node_known e count name (any.Manager m) was).named ∙ same))
+        by (any.Cleaner c) name same named was is (inr turned) among = absurd (no_cleaner v ((node_known e count name (any.Cleaner c) was).named ∙ same))
+        by (any.Registry r) name same named was is (inr turned) among = absurd (no_registry v ((node_known e count name (any.Registry r) was).named ∙ same))
 
 pub each_run : EachRunsRebuildsAreTrue
 each_run e run = rebuilds e run

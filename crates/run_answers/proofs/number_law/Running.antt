@@ -8,6 +8,7 @@ use Rattle.group_rebuild.specs.declared.reads.Present.{Present}
 use Rattle.group_rebuild.specs.declared.wanted.Wanted.{Wanted}
 use Rattle.group_rebuild.specs.Reads.{ReadsState, one_more}
 use Rattle.group_rebuild.specs.RebuildState.{RebuildState}
+use Rattle.node_base.specs.declared.questions.Asked.{Asked}
 use Rattle.store_nodes.specs.declared.server.Rebuilding.{Rebuilding}
 use Rattle.store_nodes.specs.declared.server.Server.{Server as Node}
 use Rattle.stripe_code.specs.declared.round.Answer.{Answer as Reply}
@@ -15,15 +16,15 @@ use Rattle.stripe_code.specs.declared.round.Told.{Told}
 use Rattle.stripe_code.specs.Round.{RoundSoFar, has_answered, round_take}
 use Rattle.wire_msg.specs.declared.storage.Listed.{Listed}
 use Rattle.world_base.specs.declared.estate.Estate.{Estate}
-use Rattle.xfs_base.proofs.Alls.{all_append}
+use Rattle.xfs_base.proofs.Alls.{all_append, all_weaker}
 use Rattle.xfs_base.proofs.Booleans.{by_test}
 use Rattle.xfs_base.specs.declared.fragment.FragMeta.{FragMeta}
 use Rattle.xfs_base.specs.declared.node.NodeId.TheVariants as nodes
 use Rattle.xfs_base.specs.declared.segment.SegName.{SegName}
 use Rattle.xfs_base.specs.Limits.{u32_end}
-use Rattle.headline.specs.Numbers.{AreCounted, BeganAt, HasTold, IsFilled, IsGone, IsLacking, IsReplyOf, listed_by}
+use Rattle.headline.specs.Numbers.{AreCounted, BeganAt, HasAsked, HasTold, IsFilled, IsGone, IsLacking, IsReplyOf, listed_by}
 use Rattle.headline.specs.Numbers.AreCounted.{OneFilled, OneGone}
-use Rattle.run_answers.proofs.number_law.Evidence.{IsAskedAs, ListCame, Replied, counted_later, lacking_later, lists_later, replies_later}
+use Rattle.run_answers.proofs.number_law.Evidence.{IsAskedAs, ListCame, Replied, asked_later, counted_later, lacking_later, lists_later, replies_later}
 
 -- a round over the other members of a segment's group, with these replies
 abbrev pub round_of : Wanted → List Reply → RoundSoFar
@@ -42,10 +43,15 @@ module _ (e : Estate AnyNode) (v begun end : ℕ) where
     pub heard_of : heard ≡ map (λ (list : ℕ × Listed). list.0) lists
     pub listed_of : listed ≡ listed_by lists
 
-  -- the round that is under way
-  pub record PresentSo (p : Present) : Type 0 where
+  -- another server was asked for its fragment, under the question that is out for this one of the rebuild's
+  abbrev pub AskedOf : SegName → Asked → ℕ → ℕ → Type 0
+  AskedOf name fetches own other = (fetches.own ≡ own) × HasAsked e v begun end name fetches.ask other
+
+  -- the round that is under way, for this question of the rebuild's
+  pub record PresentSo (fetches : Asked) (own : ℕ) (p : Present) : Type 0 where
     pub is : p.round ≡ round_of p.wanted p.round.answers
-    pub come : AllByRecursion (Replied e v begun end) p.round.answers
+    pub asked : AllByRecursion (AskedOf p.wanted.meta.name fetches own) p.wanted.others
+    pub come : AllByRecursion (Replied e v begun end p.wanted.meta.name fetches.ask) p.round.answers
     pub fit : AllByRecursion (IsReplyOf p.wanted) p.round.answers
 
   -- so many are filled in and gone, before these that are left of all
@@ -60,13 +66,13 @@ module _ (e : Estate AnyNode) (v begun end : ℕ) where
     pub fills : filled ≡ min many u32_end
     pub losses : gone ≡ min lost u32_end
 
-  pub record ReadsSo (r : ReadsState) : Type 0 where
+  pub record ReadsSo (fetches : Asked) (r : ReadsState) : Type 0 where
     pub behind : Behind (here r.present ++ r.left) r.filled r.gone
-    pub present : IfSome r.present PresentSo
+    pub present : IfSome r.present (PresentSo fetches r.ask)
 
-  abbrev pub ReadingSo : ℕ → List ℕ → List (SegName × FragMeta) → Option ReadsState → Type 0
-  ReadingSo ask heard listed None = ListsSo ask heard listed
-  ReadingSo ask heard listed (Some r) = ReadsSo r
+  abbrev pub ReadingSo : ℕ → Asked → List ℕ → List (SegName × FragMeta) → Option ReadsState → Type 0
+  ReadingSo ask fetches heard listed None = ListsSo ask heard listed
+  ReadingSo ask fetches heard listed (Some r) = ReadsSo fetches r
 
   -- ---- one more is filled in, or gone
 
@@ -105,15 +111,17 @@ module _ (e : Estate AnyNode) (v begun end : ℕ) where
   }
 
   -- a server replied, and so the round stands with that
-  pub round_taken : (p : Present) (server : ℕ) (t : Told) → PresentSo p → IsReplyOf p.wanted (record { server = server; told = t })
-      → HasTold e v begun end server t → PresentSo (record { wanted = p.wanted; round = round_take p.round server t })
+  pub round_taken : (fetches : Asked) (own : ℕ) (p : Present) (server : ℕ) (t : Told) → PresentSo fetches own p
+      → IsReplyOf p.wanted (record { server = server; told = t }) → HasTold e v begun end p.wanted.meta.name fetches.ask server t
+      → PresentSo fetches own (record { wanted = p.wanted; round = round_take p.round server t })
   unfolding round_take
-  round_taken p server t h fits new =
-      by_test (λ (r : RoundSoFar). PresentSo (record { wanted = p.wanted; round = r })) (has_answered p.round.answers server) p.round
+  round_taken fetches own p server t h fits new =
+      by_test (λ (r : RoundSoFar). PresentSo fetches own (record { wanted = p.wanted; round = r })) (has_answered p.round.answers server) p.round
       (record p.round { answers = p.round.answers ++ record { server = server; told = t } ∷ [] }) (λ _. h)
       (λ _. record {
         is = ap (λ (r : RoundSoFar). record r { answers = p.round.answers ++ record { server = server; told = t } ∷ [] }) h.is;
-        come = all_append (Replied e v begun end) p.round.answers (record { server = server; told = t } ∷ []) h.come (new, tt);
+        asked = h.asked;
+        come = all_append (Replied e v begun end p.wanted.meta.name fetches.ask) p.round.answers (record { server = server; told = t } ∷ []) h.come (new, tt);
         fit = all_append (IsReplyOf p.wanted) p.round.answers (record { server = server; told = t } ∷ []) h.fit (fits, tt);
       })
 
@@ -133,27 +141,34 @@ module _ (e : Estate AnyNode) (v begun end : ℕ) where
     losses = h.losses;
   }
 
-  present_later : (p : Option Present) → IfSome p (PresentSo e v begun end) → IfSome p (PresentSo e v begun (suc end))
-  present_later None h = tt
-  present_later (Some p) h = record { is = h.is; come = replies_later e v begun end p.round.answers h.come; fit = h.fit }
+  present_later : (fetches : Asked) (own : ℕ) (p : Option Present) → IfSome p (PresentSo e v begun end fetches own)
+      → IfSome p (PresentSo e v begun (suc end) fetches own)
+  present_later fetches own None h = tt
+  present_later fetches own (Some p) h = record {
+    is = h.is;
+    asked = all_weaker (AskedOf e v begun end p.wanted.meta.name fetches own) (AskedOf e v begun (suc end) p.wanted.meta.name fetches own)
+        (λ other one. (one.0, asked_later e v begun end p.wanted.meta.name fetches.ask other one.1)) p.wanted.others h.asked;
+    come = replies_later e v begun end p.wanted.meta.name fetches.ask p.round.answers h.come;
+    fit = h.fit;
+  }
 
-  pub reading_later : (ask : ℕ) (heard : List ℕ) (listed : List (SegName × FragMeta)) (r : Option ReadsState) → ReadingSo e v begun end ask heard listed r
-      → ReadingSo e v begun (suc end) ask heard listed r
-  reading_later ask heard listed None h = record {
+  pub reading_later : (ask : ℕ) (fetches : Asked) (heard : List ℕ) (listed : List (SegName × FragMeta)) (r : Option ReadsState)
+      → ReadingSo e v begun end ask fetches heard listed r → ReadingSo e v begun (suc end) ask fetches heard listed r
+  reading_later ask fetches heard listed None h = record {
     lists = h.lists;
     come = lists_later e v begun end h.lists h.come;
     asked = h.asked;
     heard_of = h.heard_of;
     listed_of = h.listed_of;
   }
-  reading_later ask heard listed (Some r) h =
-      record { behind = behind_later (here r.present ++ r.left) r.filled r.gone h.behind; present = present_later r.present h.present }
+  reading_later ask fetches heard listed (Some r) h =
+      record { behind = behind_later (here r.present ++ r.left) r.filled r.gone h.behind; present = present_later fetches r.ask r.present h.present }
 
 -- ---- a server
 
 module _ (e : Estate AnyNode) (v end : ℕ) where
-  -- a rebuild is under way for this open item, over these groups, and asks for lists under this question
-  pub record RunsSo (open_item : Option ℕ) (groups : Option GroupMapState) (ask : ℕ) (r : RebuildState) : Type 0 where
+  -- a rebuild is under way for this open item, over these groups, and asks for lists, and for fragments, under these questions
+  pub record RunsSo (open_item : Option ℕ) (groups : Option GroupMapState) (ask : ℕ) (fetches : Asked) (r : RebuildState) : Type 0 where
     pub item : ℕ
     pub waits : open_item ≡ Some item
     pub begun : ℕ
@@ -161,19 +176,19 @@ module _ (e : Estate AnyNode) (v end : ℕ) where
     pub since : begun < end
     pub server : r.server ≡ v
     pub known : groups ≡ Some r.groups
-    pub reading : ReadingSo e v begun end ask r.heard r.listed r.reads
+    pub reading : ReadingSo e v begun end ask fetches r.heard r.listed r.reads
 
   abbrev pub SoFar : Option ℕ → Option GroupMapState → Option Rebuilding → Type 0
   SoFar open_item groups None = Unit {0}
-  SoFar open_item groups (Some r) = RunsSo open_item groups r.lists r.rebuild
+  SoFar open_item groups (Some r) = RunsSo open_item groups r.lists r.fetches r.rebuild
 
   abbrev pub NodeSo : Node → Type 0
   NodeSo node = SoFar node.items.unanswered node.maps.groups node.rebuilding
 
 module _ (e : Estate AnyNode) (v end : ℕ) where
-  runs_later : (open_item : Option ℕ) (groups : Option GroupMapState) (ask : ℕ) (r : RebuildState) → RunsSo e v end open_item groups ask r
-      → RunsSo e v (suc end) open_item groups ask r
-  runs_later open_item groups ask r h =
+  runs_later : (open_item : Option ℕ) (groups : Option GroupMapState) (ask : ℕ) (fetches : Asked) (r : RebuildState)
+      → RunsSo e v end open_item groups ask fetches r → RunsSo e v (suc end) open_item groups ask fetches r
+  runs_later open_item groups ask fetches r h =
       let low = h.since in
       record {
         item = h.item;
@@ -183,10 +198,10 @@ module _ (e : Estate AnyNode) (v end : ℕ) where
         since = omega arith;
         server = h.server;
         known = h.known;
-        reading = reading_later e v h.begun end ask r.heard r.listed r.reads h.reading;
+        reading = reading_later e v h.begun end ask fetches r.heard r.listed r.reads h.reading;
       }
 
   pub so_later : (open_item : Option ℕ) (groups : Option GroupMapState) (r : Option Rebuilding) → SoFar e v end open_item groups r
       → SoFar e v (suc end) open_item groups r
   so_later open_item groups None h = tt
-  so_later open_item groups (Some r) h = runs_later open_item groups r.lists r.rebuild h
+  so_later open_item groups (Some r) h = runs_later open_item groups r.lists r.fetches r.rebuild h

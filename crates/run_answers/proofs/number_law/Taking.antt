@@ -37,14 +37,15 @@ use Rattle.xfs_base.specs.declared.segment.SegName.{SegName}
 use Rattle.xfs_base.specs.Limits.{u32_end}
 use Rattle.xfs_base.specs.Segments.{same_name}
 use Rattle.xfs_base.specs.Steps.{Stepped, steps, still}
+use Rattle.run_laws.proofs.world_reads.ManagerOwed.{one_among}
 use Rattle.headline.specs.Moments.{moment, node_named}
-use Rattle.headline.specs.Numbers.{HasCome, HasTold, IsLacking, IsReplyOf, IsToldOf, RoundStands, listed_by}
+use Rattle.headline.specs.Numbers.{HasAsked, HasCome, HasTold, IsLacking, IsReplyOf, IsToldOf, RoundStands, listed_by}
 use Rattle.headline.specs.Numbers.AreCounted.{NoneYet}
 use Rattle.headline.specs.Servers.{shelf_at}
 use Rattle.run_answers.proofs.number_law.Asking.{Leads, Open, fill_stands, next_leads, next_shelf, with_reading}
 use Rattle.run_answers.proofs.number_law.Awaiting.{all_told, in_heard}
 use Rattle.run_answers.proofs.number_law.Evidence.{IsAskedAs, ListCame}
-use Rattle.run_answers.proofs.number_law.Running.{Behind, ListsSo, PresentSo, ReadingSo, ReadsSo, RunsSo, filled_one, gone_one, here, reading_later, round_of, round_taken}
+use Rattle.run_answers.proofs.number_law.Running.{AskedOf, Behind, ListsSo, PresentSo, ReadingSo, ReadsSo, RunsSo, filled_one, gone_one, here, reading_later, round_of, round_taken}
 
 -- the server, once the rebuild has taken a step, and done what it says
 abbrev pub after : Node → Rebuilding → Stepped RebuildState Out → Done
@@ -77,17 +78,17 @@ module _ (p : Present) (is : p.round ≡ round_of p.wanted p.round.answers) wher
   )
 
 module _ (e : Estate AnyNode) (v count : ℕ) (node : Node) (r : Rebuilding)
-    (so : RunsSo e v count node.items.unanswered node.maps.groups r.lists r.rebuild) where
+    (so : RunsSo e v count node.items.unanswered node.maps.groups r.lists r.fetches r.rebuild) where
   abbrev s : RebuildState
   s = r.rebuild
 
-  abbrev reading : ReadingSo e v so.begun (suc count) r.lists r.rebuild.heard r.rebuild.listed r.rebuild.reads
-  reading = reading_later e v so.begun count r.lists r.rebuild.heard r.rebuild.listed r.rebuild.reads so.reading
+  abbrev reading : ReadingSo e v so.begun (suc count) r.lists r.fetches r.rebuild.heard r.rebuild.listed r.rebuild.reads
+  reading = reading_later e v so.begun count r.lists r.fetches r.rebuild.heard r.rebuild.listed r.rebuild.reads so.reading
 
   -- it goes on with this rebuild, and says nothing
-  goes_on : (t : RebuildState) → t.server ≡ r.rebuild.server → t.groups ≡ r.rebuild.groups → ReadingSo e v so.begun (suc count) r.lists t.heard t.listed t.reads
-      → Leads e v count (after node r (still t))
-  goes_on t server groups reads =
+  goes_on : (t : RebuildState) → t.server ≡ r.rebuild.server → t.groups ≡ r.rebuild.groups
+      → ReadingSo e v so.begun (suc count) r.lists r.fetches t.heard t.listed t.reads → Leads e v count (after node r (still t))
+  goes_on t server groups reads = λ acted.
       let low = so.since in
       record {
         state = record {
@@ -173,11 +174,11 @@ module _ (e : Estate AnyNode) (v count : ℕ) (node : Node) (r : Rebuilding)
 
     heard : r.rebuild.reads ≡ None → Leads e v count (after node r (begun_if_all t (barred node.shelf)))
     heard none =
-        let l = with_list (subst (λ (o : Option ReadsState). ReadingSo e v so.begun (suc count) r.lists r.rebuild.heard r.rebuild.listed o) none reading) in
+        let l = with_list (subst (λ (o : Option ReadsState). ReadingSo e v so.begun (suc count) r.lists r.fetches r.rebuild.heard r.rebuild.listed o) none reading) in
         by_test (λ (d : Stepped RebuildState Out). Leads e v count (after node r d)) (length (awaited t) == 0) (rebuild_begin t (barred node.shelf)) (still t)
         (λ fact. begins none l fact)
         (λ _. goes_on t refl refl
-        (subst (λ (o : Option ReadsState). ReadingSo e v so.begun (suc count) r.lists t.heard t.listed o) (sym none) l))
+        (subst (λ (o : Option ReadsState). ReadingSo e v so.begun (suc count) r.lists r.fetches t.heard t.listed o) (sym none) l))
 
     pub listed : Leads e v count (after node r (on_listed r.rebuild server m.held (barred node.shelf)))
     unfolding on_listed
@@ -191,7 +192,8 @@ module _ (e : Estate AnyNode) (v count : ℕ) (node : Node) (r : Rebuilding)
   abbrev Goes : Done → Type 0
   Goes d = shelf_at (moment e (suc count)) v ≡ Some d.state.shelf → Leads e v count d
 
-  module _ (server own : ℕ) (what : Told) (told : HasTold e v so.begun (suc count) server what) where
+  module _ (server own : ℕ) (what : Told)
+      (told : (name : SegName) → HasAsked e v so.begun count name r.fetches.ask server → HasTold e v so.begun (suc count) name r.fetches.ask server what) where
     open_at : (shelf : ShelfState) (left : List Wanted) (reads : ReadsState) → Behind e v so.begun (suc count) left reads.filled reads.gone
         → Open e v count (record node { shelf = shelf }) r.rebuild left reads
     open_at shelf left reads behind = record {
@@ -206,15 +208,16 @@ module _ (e : Estate AnyNode) (v count : ℕ) (node : Node) (r : Rebuilding)
     }
 
     module _ (reads : ReadsState) (p : Present) (left : Behind e v so.begun (suc count) (p.wanted ∷ reads.left) reads.filled reads.gone)
-        (present : PresentSo e v so.begun (suc count) p) (fits : IsReplyOf p.wanted (record { server = server; told = what })) where
+        (present : PresentSo e v so.begun (suc count) r.fetches reads.ask p) (fits : IsReplyOf p.wanted (record { server = server; told = what }))
+        (asked : HasAsked e v so.begun count p.wanted.meta.name r.fetches.ask server) where
       abbrev round : RoundSoFar
       round = round_take p.round server what
 
-      taken : PresentSo e v so.begun (suc count) (record { wanted = p.wanted; round = round })
-      taken = round_taken e v so.begun (suc count) p server what present fits told
+      taken : PresentSo e v so.begun (suc count) r.fetches reads.ask (record { wanted = p.wanted; round = round })
+      taken = round_taken e v so.begun (suc count) r.fetches reads.ask p server what present fits (told p.wanted.meta.name asked)
 
       stands_so : (st : RoundState) → state_of round ≡ st → RoundStands e v so.begun (suc count) p.wanted st
-      stands_so st fact = record { replies = round.answers; come = taken.come; fit = taken.fit; is = ap state_of (sym taken.is) ∙ fact }
+      stands_so st fact = record { ask = r.fetches.ask; replies = round.answers; come = taken.come; fit = taken.fit; is = ap state_of (sym taken.is) ∙ fact }
 
       -- a fragment is filled in
       fills : (text : List ℕ) → state_of round ≡ Read text → Goes (after node r (with_reads r.rebuild (reads_judge reads p.wanted round (Read text))))
@@ -253,15 +256,19 @@ module _ (e : Estate AnyNode) (v count : ℕ) (node : Node) (r : Rebuilding)
           goes_on (record r.rebuild { reads = Some (record reads { present = Some (record { wanted = p.wanted; round = round }) }) }) refl refl
           (record { behind = left; present = taken })
 
-    reads_told : (reads : ReadsState) → ReadsSo e v so.begun (suc count) reads → (p : Option Present) → reads.present ≡ p
-        → Goes (after node r (with_reads r.rebuild (answered reads p own server what)))
-    reads_told reads h None same = λ at. goes_on (record r.rebuild { reads = Some reads }) refl refl h
-    reads_told reads h (Some p) same =
+    reads_told : (reads : ReadsState) → ReadsSo e v so.begun count r.fetches reads → ReadsSo e v so.begun (suc count) r.fetches reads → (p : Option Present)
+        → reads.present ≡ p → Goes (after node r (with_reads r.rebuild (answered reads p own server what)))
+    reads_told reads was h None same = λ at. goes_on (record r.rebuild { reads = Some reads }) refl refl h
+    reads_told reads was h (Some p) same =
+        let before = subst (λ (o : Option Present). IfSome o (PresentSo e v so.begun count r.fetches reads.ask)) same was.present in
         let left = subst (λ (o : Option Present). Behind e v so.begun (suc count) (here o ++ reads.left) reads.filled reads.gone) same h.behind in
-        let present = subst (λ (o : Option Present). IfSome o (PresentSo e v so.begun (suc count))) same h.present in
+        let present = subst (λ (o : Option Present). IfSome o (PresentSo e v so.begun (suc count) r.fetches reads.ask)) same h.present in
         by_test (λ (d : Stepped ReadsState Out). Goes (after node r (with_reads r.rebuild d))) ((own == reads.ask) && counts p server what)
         (reads_judge reads p.wanted (round_take p.round server what) (state_of (round_take p.round server what))) (still reads)
-        (λ fact. judged reads p left present (reply_of p present.is server what (and_second (own == reads.ask) (counts p server what) fact))
+        (λ fact.
+        let fits = reply_of p present.is server what (and_second (own == reads.ask) (counts p server what) fact) in
+        judged reads p left present fits
+        (one_among (AskedOf e v so.begun count p.wanted.meta.name r.fetches reads.ask) p.wanted.others server before.asked fits.0).1
         (state_of (round_take p.round server what)) refl)
         (λ _ at. goes_on (record r.rebuild { reads = Some reads }) refl refl h)
 
@@ -272,5 +279,7 @@ module _ (e : Estate AnyNode) (v count : ℕ) (node : Node) (r : Rebuilding)
         by : (o : Option ReadsState) → r.rebuild.reads ≡ o → Goes (after node r (told_by r.rebuild o own server what))
         by None same = λ at. stays
         by (Some reads) same =
-            reads_told reads (subst (λ (o : Option ReadsState). ReadingSo e v so.begun (suc count) r.lists r.rebuild.heard r.rebuild.listed o) same reading)
+            reads_told reads
+            (subst (λ (o : Option ReadsState). ReadingSo e v so.begun count r.lists r.fetches r.rebuild.heard r.rebuild.listed o) same so.reading)
+            (subst (λ (o : Option ReadsState). ReadingSo e v so.begun (suc count) r.lists r.fetches r.rebuild.heard r.rebuild.listed o) same reading)
             reads.present refl
