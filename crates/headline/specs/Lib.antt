@@ -37,6 +37,8 @@ pub mod RegistryReplies
 pub mod ManagerReplies
 pub mod ManagerTakes
 pub mod ClientReplies
+pub mod ClientRefusals
+pub mod CleanerReplies
 pub mod Replies
 pub mod Updates
 pub mod Changes

@@ -11,6 +11,8 @@ use Rattle.wire_msg.specs.NodeStep.{NodeStep}
 use Rattle.world_base.specs.declared.estate.Estate.{Estate}
 use Rattle.world_base.specs.declared.event.Event.{Event}
 use Rattle.world_base.specs.Events.{node_of, what_of}
+use Rattle.headline.specs.CleanerReplies.{CleanerReplies}
+use Rattle.headline.specs.ClientRefusals.{ClientRefusals}
 use Rattle.headline.specs.ClientReplies.{ClientReplies}
 use Rattle.headline.specs.Dues.{has_counters}
 use Rattle.headline.specs.ManagerReplies.{ManagerReplies}
@@ -22,11 +24,12 @@ use Rattle.headline.specs.Shelves.{ShelfChanges}
 
 -- the packet that comes is answered: one that is well formed, and names no group that a server doesn't know
 abbrev pub IsReplied : AnyNode → Do → NodeStep AnyNode → Type 0
-IsReplied (any.Client c) (Deliver packet) s = is_well_formed c.peers packet ≡ true → ClientReplies c packet s
+IsReplied (any.Client c) (Deliver packet) s = is_well_formed c.peers packet ≡ true → ClientReplies c packet s × ClientRefusals c packet s
 IsReplied (any.Server v) (Deliver packet) s =
     is_well_formed v.peers packet ≡ true → names_known_groups v.maps packet.body ≡ true → ServerReplies v packet.from s packet.body
 IsReplied (any.Manager m) (Deliver packet) s = is_well_formed m.peers packet ≡ true → ManagerReplies m packet s.packets × ManagerTakes m packet s
 IsReplied (any.Registry r) (Deliver packet) s = is_well_formed r.peers packet ≡ true → RegistryReplies r packet.from s packet.body
+IsReplied (any.Cleaner c) (Deliver packet) s = is_well_formed c.peers packet ≡ true → CleanerReplies c packet s
 IsReplied _ what s = Unit {0}
 
 -- a server's shelf stays, or changes as it is asked to

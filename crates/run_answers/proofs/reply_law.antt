@@ -9,4 +9,7 @@ mod Recalls
 mod Listed
 mod Polls
 mod Clients
+mod Refusals
+mod Jobs
+mod Cleaners
 mod Runs

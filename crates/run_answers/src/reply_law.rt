@@ -1,7 +1,7 @@
-//! What a storage server, a manager, a client that serves and the registry are asked they answer at once. It has no code of the product: the function below
-//! calls the law that it stands on, and its contract is a law. In `headline`, `specs/ServerReplies.antt` says it of servers, `specs/ManagerReplies.antt` and
-//! `specs/ManagerTakes.antt` of managers, `specs/ClientReplies.antt` of clients, `specs/RegistryReplies.antt` of the registry, `specs/Shelves.antt` of shelves,
-//! and `specs/Replies.antt` of runs.
+//! What a storage server, a manager, a client or a cleaner that serves, and the registry are asked they answer at once. It has no code of the product: the
+//! function below calls the law that it stands on, and its contract is a law. In `headline`, `specs/ServerReplies.antt` says it of servers,
+//! `specs/ManagerReplies.antt` and `specs/ManagerTakes.antt` of managers, `specs/ClientReplies.antt` and `specs/ClientRefusals.antt` of clients,
+//! `specs/CleanerReplies.antt` of the cleaner, `specs/RegistryReplies.antt` of the registry, `specs/Shelves.antt` of shelves, and `specs/Replies.antt` of runs.
 
 ghost use Rattle.run_answers.specs.reply_law.Runs.{EachQuestionIsAnswered, EachRunAnswersQuestions};
 
@@ -17,8 +17,9 @@ use shelf_changes::server_events_change_a_shelf_by_one_call;
 /// named of their logs is applied, it meets the want that waits; and what a log tells is applied where it joins on, which is said. A client that serves gives
 /// up at once what a manager takes back under a later stamp than it was held under, where the newest version is settled; else it puts that off, with a segment
 /// of its log in flight; and a recall that it answered it answers again. It passes on a copy of just the version that a manager names, and tells a manager that
-/// asks what it holds of a slot, and where its log ends. And a shelf changes only so, by a fragment that a rebuild under way fills in, or by the loss of its
-/// disk as an item begins. So it is in each event of every run.
+/// asks what it holds of a slot, and where its log ends. Where a Gone refuses a want of it that stands it ends its call, which is answered lost, and else loses
+/// nothing by it. A cleaner that serves tells a manager that asks it where its log ends, and reports to nobody else. And a shelf changes only so, by a fragment
+/// that a rebuild under way fills in, or by the loss of its disk as an item begins. So it is in each event of every run.
 pub fn questions_are_answered()
     ensures events { EachQuestionIsAnswered }
     ensures runs { EachRunAnswersQuestions }

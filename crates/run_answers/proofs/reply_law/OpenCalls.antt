@@ -34,7 +34,7 @@ use Rattle.log_owner.specs.Sealing.{is_settling}
 use Rattle.log_owner.specs.Sending.{range}
 use Rattle.node_base.specs.Beginning.{answers_unanswered}
 use Rattle.node_base.specs.declared.effects.Effect.{Effect}
-use Rattle.node_base.specs.declared.effects.Effect.TheVariants.{Does, Send}
+use Rattle.node_base.specs.declared.effects.Effect.TheVariants.{Does, Lose, Send}
 use Rattle.token_client.proofs.Tables.{put_each, put_same}
 use Rattle.token_client.specs.declared.held.Held.{Held}
 use Rattle.token_client.specs.declared.input.In.TheVariants as input
@@ -42,7 +42,7 @@ use Rattle.token_client.specs.Held.{held_ask, held_write, let_go, may_evict, may
 use Rattle.token_client.specs.State.{TokensState, held_of, with_held}
 use Rattle.token_client.specs.Transition as tokens
 use Rattle.token_client.specs.Transition.{on_evict, on_need, on_wrote, tokens_ask}
-use Rattle.version_model.specs.declared.act.Act.TheVariants.{Synced}
+use Rattle.version_model.specs.declared.act.Act.TheVariants.{Lost, Synced}
 use Rattle.version_model.specs.declared.answer.Answer.{Answer}
 use Rattle.xfs_base.proofs.Alls.{all_append}
 use Rattle.xfs_base.proofs.Booleans.{by_test}
@@ -68,9 +68,11 @@ pub record Keeps (s t : Serving) : Type 0 where
   pub blocks : KeepsBlocks s.tokens t.tokens
   pub flight : is_some s.log.flight ≡ true → is_some t.log.flight ≡ true
 
--- it answers nobody
+-- it answers nobody, and says of no segment that it is lost
 abbrev pub IsSilent : Effect → Type 0
 IsSilent (Send to said) = is_reply said ≡ false
+IsSilent (Lose seg) = ⊥
+IsSilent (Does (Lost node seg)) = ⊥
 IsSilent _ = Unit {0}
 
 abbrev pub AllSilent : List Effect → Type 0
@@ -150,7 +152,7 @@ stored_silent [] = tt
 stored_silent (log_out.Send fragment member ∷ outs) = (refl, stored_silent outs)
 stored_silent (log_out.Settled end rows ∷ outs) = stored_silent outs
 
-answers_silent : (item : Option ℕ) (a : Answer) → AllSilent (answers_unanswered item a)
+pub answers_silent : (item : Option ℕ) (a : Answer) → AllSilent (answers_unanswered item a)
 answers_silent None a = tt
 answers_silent (Some number) a = (tt, tt)
 
