@@ -119,8 +119,8 @@ module _ (e : Estate AnyNode) (begun end : ℕ) where
     pub to_server : packet.to ≡ nodes.Server server
     pub says : packet.body ≡ body.Fetch (record { name = name; ask = ask })
 
-  -- All that there is to empty, since the item began, as which the last question was this: by a Welcome that answers a newer one, and by the lists of all
-  -- servers under one newer question.
+  -- All that there is to empty, since the item began, as which the last question was this: by a Welcome that answers a newer one, whichever that was, and by
+  -- the lists of all servers under one newer question.
   pub record AreCandidates (last : ℕ) (at_first : Option GroupMapState) (candidates : List (SegName × ℕ)) : Type 0 where
     pub from : NodeId
     pub welcome : Welcome

@@ -64,13 +64,13 @@ module _ (s now : Serving) (packets : List Packet) where
       pub unowned : is_own (held_at now recall.block).mode ≡ false
       pub kept : is_held (held_at now recall.block).mode ≡ true → (recall.keep ≡ true) × (is_held was.mode ≡ true)
 
-    -- It can't yet, as the newest version isn't settled: the block is to be given up under this stamp or a later one. Where something waits for its log, a segment is
-    -- in flight then.
+    -- It can't yet, as the newest version isn't settled: the block is to be given up under this recall's stamp, or is so already under that of a later recall.
+    -- Where something waits for its log, a segment is in flight then.
     pub record PutsOff : Type 0 where
       pub replies : RepliesWith []
       pub giving : Giving
       pub stands : (held_at now recall.block).giving ≡ Some giving
-      pub stamped : is_later recall.stamp giving.stamp ≡ false
+      pub whose : (giving ≡ record { stamp = recall.stamp; keep = recall.keep }) ⊎ ((was.giving ≡ Some giving) × (is_later giving.stamp recall.stamp ≡ true))
       pub flies : is_settled s ≡ false → is_some now.log.flight ≡ true
 
     pub record TakesRecall : Type 0 where
@@ -96,8 +96,8 @@ module _ (s now : Serving) (packets : List Packet) where
       ∷ [])
   PassesOn f None = RepliesWith []
 
-  -- A manager asks what it holds of a slot: it tells that one, whom it takes for the slot's manager from now on, each block of the slot that it holds, with its mode,
-  -- no other, and the end of its log.
+  -- A manager asks what it holds of a slot: it tells that one, as the slot's manager, each block of the slot that it holds, with its mode, no other, and the
+  -- end of its log.
   pub record Reports (manager : ℕ) (poll : Poll) : Type 0 where
     pub held : List (BlockId × Mode)
     pub all : (block : BlockId) → slot_of block.ino.0 ≡ poll.slot → is_held (held_at s block).mode ≡ true → In (block, (held_at s block).mode) held

@@ -316,11 +316,11 @@ module _ (s : Serving) (recall : Recall) where
           (all_append IsSilent handed.before (flat_map stored (on_seal v.log).outs ++ []) handed.silent
           (all_append IsSilent (flat_map stored (on_seal v.log).outs) [] (stored_silent (on_seal v.log).outs) tt))
 
-      -- what waits is given up under the recall's stamp, or a later one
+      -- what waits is given up under the recall's stamp, or is so already under that of a later one
       pub record IsWaiting (g : Held) : Type 0 where
         pub giving : Giving
         pub stands : g.giving ≡ Some giving
-        pub stamped : is_later stamp giving.stamp ≡ false
+        pub whose : (giving ≡ record { stamp = stamp; keep = recall.keep }) ⊎ ((was.giving ≡ Some giving) × (is_later giving.stamp stamp ≡ true))
 
       waiting : IsWaiting (put_off its stamp recall.keep)
       waiting = by its.giving refl
@@ -329,11 +329,11 @@ module _ (s : Serving) (recall : Recall) where
           new = record { stamp = stamp; keep = recall.keep }
 
           by : (o : Option Giving) → its.giving ≡ o → IsWaiting (cond (gives_after o stamp) its (record its { giving = Some new }))
-          by None is = record { giving = new; stands = refl; stamped = not_later_itself stamp }
+          by None is = record { giving = new; stands = refl; whose = inl refl }
           by (Some g) is =
               by_test IsWaiting (is_later g.stamp stamp) its (record its { giving = Some new })
-              (λ after. record { giving = g; stands = is; stamped = not_later_back stamp g.stamp after })
-              (λ _. record { giving = new; stands = refl; stamped = not_later_itself stamp })
+              (λ after. record { giving = g; stands = is; whose = inr (sym is_refetched.giving ∙ is, after) })
+              (λ _. record { giving = new; stands = refl; whose = inl refl })
 
       is_put : (x : Serving) → x.tokens ≡ kept → held_at (note_gone x block) block ≡ put_off its stamp recall.keep
       unfolding note_gone
@@ -363,7 +363,7 @@ module _ (s : Serving) (recall : Recall) where
             replies = said;
             giving = is.giving;
             stands = keeps.blocks.giving block ∙ is.stands;
-            stamped = is.stamped;
+            whose = is.whose;
             flies = λ waits. keeps.flight (flies_then waits);
           }
 
