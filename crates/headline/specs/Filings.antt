@@ -1,8 +1,12 @@
 -- What the nodes that own a log file while they serve, clients, the cleaner and managers: segments of it, of the incarnation that opened it, each of the number
--- behind the one that they filed last.
-use Rattle.std.specs.Prelude.{◌≡◌, ℕ, zero, suc, if◌then◌else◌, List, [], ◌∷◌, Option, Some, None, slice_get}
+-- behind the one that they filed last; and that no other node, nor one of these while it is down, files any.
+use Rattle.std.specs.Prelude.{◌≡◌, ℕ, zero, suc, Bool, true, false, if◌then◌else◌, List, [], ◌∷◌, Option, Some, None, slice_get}
 use Rattle.cleaner_node.specs.CleanerEvents as cleaners
+use Rattle.cleaner_node.specs.declared.cleaner.Phase as cleaner
+use Rattle.cleaner_node.specs.declared.cleaner.Phase.TheVariants as cleaner_phase
 use Rattle.client_log.specs.LogState.{LogState}
+use Rattle.client_node.specs.declared.phase.Phase as client
+use Rattle.client_node.specs.declared.phase.Phase.TheVariants as client_phase
 use Rattle.client_node.specs.Phases as clients
 use Rattle.core_world.specs.declared.any_node.AnyNode.{AnyNode}
 use Rattle.core_world.specs.declared.any_node.AnyNode.TheVariants as any
@@ -40,6 +44,12 @@ FilesOn log boot before [] = Unit {0}
 FilesOn log boot before (act.Filed name ∷ acts) = IsNext log boot before name × FilesOn log boot name.seq acts
 FilesOn log boot before (_ ∷ acts) = FilesOn log boot before acts
 
+-- no segment is filed by these acts
+abbrev pub FilesNothing : List Act → Type 0
+FilesNothing [] = Unit {0}
+FilesNothing (act.Filed name ∷ acts) = ⊥
+FilesNothing (_ ∷ acts) = FilesNothing acts
+
 -- the log of a manager that serves
 abbrev pub managers_log : Phase → Option LogState
 managers_log (Down kept) = None
@@ -69,10 +79,24 @@ abbrev pub files_from : Option AnyNode → ℕ → ℕ
 files_from (Some (any.Manager node)) last = if managers.is_serving node.phase then last else 0
 files_from _ last = last
 
--- what a manager files in an event before which it doesn't serve is of that new log, and of its own incarnation
-abbrev pub FilesAnew : LogId → Option AnyNode → List Act → Type 0
-FilesAnew log (Some (any.Manager node)) acts = managers_log node.phase ≡ None → FilesOn log (managers.lasting_of node.phase).inc 0 acts
-FilesAnew log _ acts = Unit {0}
+-- whether a node opens its log, a client or the cleaner: it reads what there is of it, and files that again once it is open
+abbrev pub client_opens : client.Phase → Bool
+client_opens (client_phase.Down l) = false
+client_opens (client_phase.Opening l o) = true
+client_opens (client_phase.Serving s) = false
+
+abbrev pub cleaner_opens : cleaner.Phase → Bool
+cleaner_opens (cleaner_phase.Down l) = false
+cleaner_opens (cleaner_phase.Opening l o) = true
+cleaner_opens (cleaner_phase.Serving e) = false
+
+abbrev pub opens_log : Option AnyNode → Bool
+opens_log None = false
+opens_log (Some (any.Client node)) = client_opens node.phase
+opens_log (Some (any.Manager node)) = false
+opens_log (Some (any.Server node)) = false
+opens_log (Some (any.Cleaner node)) = cleaner_opens node.phase
+opens_log (Some (any.Registry node)) = false
 
 module _ (e : Estate AnyNode) (name : NodeId) where
   abbrev pub at : ℕ → Option AnyNode
@@ -92,9 +116,9 @@ module _ (e : Estate AnyNode) (name : NodeId) where
     -- in each event before which it serves each segment that it files is the next, of the incarnation of its log
     pub numbers : (count : ℕ) (event : Event) → slice_get e.events count ≡ Some event → node_of event ≡ name → (log : LogState) → own_log (at count) ≡ Some log
         → FilesOn (log_of name) log.inc (own_last count) (acts_in (moment e count) event)
-    -- in each other event a manager files of a new log
-    pub begins : (count : ℕ) (event : Event) → slice_get e.events count ≡ Some event → node_of event ≡ name
-        → FilesAnew (log_of name) (at count) (acts_in (moment e count) event)
+    -- in each other event it files nothing, but by the one in which the log that it opens is open
+    pub nothing : (count : ℕ) (event : Event) → slice_get e.events count ≡ Some event → node_of event ≡ name → own_log (at count) ≡ None
+        → (opens_log (at count) ≡ true → own_log (at (suc count)) ≡ None) → FilesNothing (acts_in (moment e count) event)
     -- the segment that it filed last is the end of its log, at each moment at which it serves
     pub ends : (count : ℕ) (log : LogState) → own_log (at count) ≡ Some log → log.end.seq ≡ own_last count
     -- the incarnation of its log is its own where it comes to serve, and stays as it is while it serves

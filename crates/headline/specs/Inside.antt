@@ -36,8 +36,8 @@ pub record InsideIsSafe (e : Estate AnyNode) : Type 0 where
   pub wants_again : WantsAgain e
   -- and so do clients, managers and the cleaner what of their logs isn't acknowledged, recalls and polls that aren't answered, and checkpoints
   pub repeated : EachIsRepeated e
-  -- a server, a manager, the registry and a client that serves answer what they are asked in the event in which it comes, and a shelf changes only as it is
-  -- asked to
+  -- a server, a manager, the registry, and a client and the cleaner where they serve, answer what they are asked in the event in which it comes, and a shelf
+  -- changes only as it is asked to
   pub questions_answered : AnswersQuestions e
   -- what was filed, and was not deleted, stands on the servers' shelves but for lost disks, and one name has one text: in the logs of each kind of owner
   pub logs_stand : LogsStand e
@@ -48,7 +48,7 @@ pub record InsideIsSafe (e : Estate AnyNode) : Type 0 where
   -- and where the cleaner comes back, no two segments of its new incarnation were filed
   pub restarts_file_one : TheCleanerFilesOne e
   -- each segment that a client, the cleaner or a manager files while it serves is of its own log and of the incarnation that opened it, and numbered behind the
-  -- one that it filed last; a manager that serves again begins a new log
+  -- one that it filed last; a manager that serves again begins a new log; and nobody else files any
   pub logs_file_on : (name : NodeId) → FilesItsLog e name
   -- and the least horizon that the registry keeps of a client's log, or of the cleaner's, is 1 at most, or at most one beyond a segment that its owner filed
   pub horizons_filed : HorizonsReached e

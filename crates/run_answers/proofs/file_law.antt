@@ -2,8 +2,11 @@ mod Acts
 mod Lines
 mod Serving
 mod Openings
+mod Reading
 mod Clients
 mod Owners
 mod Cleaning
 mod Managing
+mod Waking
+mod Silence
 mod EachNode

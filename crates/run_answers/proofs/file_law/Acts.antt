@@ -10,7 +10,7 @@ use Rattle.version_model.specs.declared.act.Act.TheVariants as act
 use Rattle.xfs_base.specs.declared.node.NodeId.{NodeId}
 use Rattle.xfs_base.specs.declared.segment.LogId.{LogId}
 use Rattle.xfs_base.specs.declared.segment.SegName.{SegName}
-use Rattle.headline.specs.Filings.{FilesOn, filed_last}
+use Rattle.headline.specs.Filings.{FilesNothing, FilesOn, filed_last}
 
 -- an effect by which nothing is filed
 abbrev pub IsOther : Act → Type 0
@@ -45,6 +45,18 @@ pub last_then_effects : (me : NodeId) (before : ℕ) (xs ys : List Effect)
     → filed_last before (acts_of me (xs ++ ys)) ≡ filed_last (filed_last before (acts_of me xs)) (acts_of me ys)
 last_then_effects me before xs ys =
     ap (filed_last before) (flat_map-append (act_of me) xs ys) ∙ last_then before (acts_of me xs) (acts_of me ys)
+
+nothing_aside : (a : Act) → IsOther a → (acts : List Act) → FilesNothing acts → FilesNothing (a ∷ acts)
+nothing_aside (act.Filed name) other acts none = absurd other
+nothing_aside _ other acts none = none
+
+-- nothing is filed by effects none of which files
+pub nothing_filed : (me : NodeId) (outs : List Effect) → AllFileNone outs → FilesNothing (acts_of me outs)
+nothing_filed me [] all = tt
+nothing_filed me (Send to said ∷ outs) all = nothing_filed me outs all.1
+nothing_filed me (Answers item a ∷ outs) all = nothing_filed me outs all.1
+nothing_filed me (Lose name ∷ outs) all = nothing_filed me outs all.1
+nothing_filed me (Does a ∷ outs) all = nothing_aside a all.0 (acts_of me outs) (nothing_filed me outs all.1)
 
 -- where the last is filed
 pub effects_last : (me : NodeId) (before : ℕ) (first : List Effect) (name : SegName)

@@ -346,7 +346,6 @@ module _ (last : ℕ) (c : Cleaner) (what : Do) (h : PhaseNow last c.phase) wher
   cleaner_turns = record {
     holds = now_so (boot_of c.phase) (last_by last after.outs) after.state goes.state;
     numbers = λ l fact. numbers_so c.phase goes.files l fact;
-    begins = tt;
     opens = λ none l fact. boots_open c.phase after.state (last_by last after.outs) goes.state none l fact;
     stays = λ was l before fact. boots_stay c.phase after.state (last_by last after.outs) goes.state was l before fact;
   }

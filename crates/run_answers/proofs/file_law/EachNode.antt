@@ -19,6 +19,7 @@ use Rattle.run_answers.proofs.file_law.Clients as clients
 use Rattle.run_answers.proofs.file_law.Clients.{PhaseFiles, client_files}
 use Rattle.run_answers.proofs.file_law.Managing.{manager_kind}
 use Rattle.run_answers.proofs.file_law.Owners.{Kind, Turned, files_its_log}
+use Rattle.run_answers.proofs.file_law.Silence.{files_open}
 use Rattle.run_answers.specs.file_law.Runs.{EachRunsNodesFileOn}
 
 no_log : (l : LogState) → None ≡ Some l → ⊥
@@ -47,7 +48,6 @@ module _ (n : ℕ) where
       record {
         holds = subst (λ k. PhaseFiles n (filed_last last (acts_of (nodes.Client k) w.outs)) w.state) (sym same) t.holds;
         numbers = λ l fact. subst (λ k. FilesOn (record { 0 = n }) l.inc last (acts_of (nodes.Client k) w.outs)) (sym same) (t.numbers l fact);
-        begins = tt;
         opens = t.opens;
         stays = t.stays;
       }
@@ -100,7 +100,6 @@ module _ (n : ℕ) where
   server_turns last (any.Server v) what h = record {
     holds = tt;
     numbers = λ l fact. absurd (no_log l fact);
-    begins = tt;
     opens = λ none l fact. absurd (no_log l fact);
     stays = λ was l before. absurd (no_log was before);
   }
@@ -138,7 +137,6 @@ registry_turns last (any.Cleaner c) what h = absurd h
 registry_turns last (any.Registry r) what h = record {
   holds = tt;
   numbers = λ l fact. absurd (no_log l fact);
-  begins = tt;
   opens = λ none l fact. absurd (no_log l fact);
   stays = λ was l before. absurd (no_log was before);
 }
@@ -170,4 +168,4 @@ kind_of e nodes.Cleaner = cleaner_kind e
 kind_of e nodes.Registry = registry_kind e
 
 pub each_node : EachRunsNodesFileOn
-each_node e name = files_its_log e name (kind_of e name)
+each_node e name = files_its_log e name (kind_of e name) files_open

@@ -66,7 +66,7 @@ said_none e (Greets inc ask) = tt
 said_none e (Registers d) = tt
 said_none e (Counts u) = tt
 
-all_said_none : (outs : List Effect) → AllByRecursion Said outs → AllFileNone outs
+pub all_said_none : (outs : List Effect) → AllByRecursion Said outs → AllFileNone outs
 all_said_none [] all = tt
 all_said_none (e ∷ outs) all = (said_none e all.0, all_said_none outs all.1)
 
@@ -158,7 +158,7 @@ module _ (n : ℕ) where
       }
 
   module _ (what : Do) (inc : ℕ) where
-    moves_file : (last : ℕ) (s t : Serving) (o : List Effect) → Moves what s t o → Stands inc last s → Goes inc last t o
+    pub moves_file : (last : ℕ) (s t : Serving) (o : List Effect) → Moves what s t o → Stands inc last s → Goes inc last t o
     moves_file last s t o (Rests u) h = quiet inc last u [] h tt
     moves_file last s t o (Then {t = v} {o = first} {m = more} a b) h =
         let x = moves_file last s v first a h in
@@ -203,7 +203,6 @@ module _ (n : ℕ) where
   record TurnsSo (p q : Phase) (last : ℕ) (o : List Effect) : Type 0 where
     holds : PhaseNow (last_by (from p last) o) q
     numbers : (l : LogState) → managers_log p ≡ Some l → FilesOn own l.inc last (acts_of me o)
-    begins : managers_log p ≡ None → FilesOn own (lasting_of p).inc 0 (acts_of me o)
     opens : managers_log p ≡ None → (l : LogState) → managers_log q ≡ Some l → l.inc ≡ (lasting_of q).inc
     stays : (was l : LogState) → managers_log p ≡ Some was → managers_log q ≡ Some l → l.inc ≡ was.inc
 
@@ -221,7 +220,6 @@ module _ (n : ℕ) where
   serves_so last s t o g = record {
     holds = now_so s.log.inc last t o g;
     numbers = λ l fact. subst (λ (x : LogState). FilesOn own x.inc last (acts_of me o)) (one_log s.log l fact) g.files.each;
-    begins = λ none. absurd (no_log s.log (sym none));
     opens = λ none. absurd (no_log s.log (sym none));
     stays = λ was l before fact.
         sym (ap (λ (x : LogState). x.inc) (one_log t.log l fact)) ∙ (g.state.line.boot ∙ ap (λ (x : LogState). x.inc) (one_log s.log was before));
@@ -231,7 +229,6 @@ module _ (n : ℕ) where
   wakes_so last life asking t o g = record {
     holds = now_so life.inc 0 t o g;
     numbers = λ l fact. absurd (no_log l fact);
-    begins = λ none. g.files.each;
     opens = λ none l fact. sym (ap (λ (x : LogState). x.inc) (one_log t.log l fact)) ∙ (g.state.line.boot ∙ sym g.state.boots);
     stays = λ was l before fact. absurd (no_log was before);
   }
@@ -240,14 +237,12 @@ module _ (n : ℕ) where
   falls_so p (Down kept) last o down number none = record {
     holds = number;
     numbers = λ l fact. (none_files own l.inc me last o none).each;
-    begins = λ _. (none_files own (lasting_of p).inc me 0 o none).each;
     opens = λ _ l fact. absurd (no_log l fact);
     stays = λ was l before fact. absurd (no_log l fact);
   }
   falls_so p (Waiting kept hello) last o down number none = record {
     holds = number;
     numbers = λ l fact. (none_files own l.inc me last o none).each;
-    begins = λ _. (none_files own (lasting_of p).inc me 0 o none).each;
     opens = λ _ l fact. absurd (no_log l fact);
     stays = λ was l before fact. absurd (no_log l fact);
   }
@@ -287,7 +282,6 @@ module _ (n : ℕ) where
       record {
         holds = subst (λ k. PhaseNow (filed_last (from m.phase last) (acts_of (nodes.Manager k) w.outs)) w.state) (sym same) t.holds;
         numbers = λ l fact. subst (λ k. FilesOn own l.inc last (acts_of (nodes.Manager k) w.outs)) (sym same) (t.numbers l fact);
-        begins = λ none. subst (λ k. FilesOn own (lasting_of m.phase).inc 0 (acts_of (nodes.Manager k) w.outs)) (sym same) (t.begins none);
         opens = t.opens;
         stays = t.stays;
       }

@@ -4,7 +4,6 @@ use Rattle.std.proofs.Math.Seq.{drop-append_seam}
 use Rattle.client_log.specs.LogState.{LogState}
 use Rattle.core_world.specs.AnyNode.{any_start, any_step}
 use Rattle.core_world.specs.declared.any_node.AnyNode.{AnyNode}
-use Rattle.core_world.specs.declared.any_node.AnyNode.TheVariants as any
 use Rattle.version_model.specs.declared.act.Act.{Act}
 use Rattle.version_model.specs.declared.work.Work.{Work}
 use Rattle.wire_msg.specs.declared.packet.Do.{Do}
@@ -17,16 +16,15 @@ use Rattle.world_base.specs.Items.{items_of}
 use Rattle.world_base.specs.NextWorld.{next_world, start_world}
 use Rattle.xfs_base.proofs.NodeOrder.{same_node_is, same_node_itself}
 use Rattle.xfs_base.specs.declared.node.NodeId.{NodeId}
-use Rattle.xfs_base.specs.declared.segment.LogId.{LogId}
 use Rattle.xfs_base.specs.Logs.{log_of}
 use Rattle.xfs_base.specs.Nodes.{same_node}
 use Rattle.run_laws.proofs.world_law.Everyone.{everyone_so}
 use Rattle.run_laws.proofs.world_law.Start.{first_stands}
 use Rattle.run_laws.proofs.world_law.Turning.{next_cluster}
-use Rattle.run_laws.proofs.world_reads.Taking.{NothingHappens, Took, moment_next, takes_or_not}
+use Rattle.run_laws.proofs.world_reads.Taking.{NothingHappens, Took, moment_next, node_then, takes_or_not}
 use Rattle.headline.specs.Moments.{acts_in, moment, node_in, node_named}
 use Rattle.run_answers.proofs.act_law.Runs.{moment_first, moment_past}
-use Rattle.headline.specs.Filings.{FilesAnew, FilesItsLog, FilesOn, at, filed_last, files_from, own_acts, own_boot, own_last, own_log}
+use Rattle.headline.specs.Filings.{FilesItsLog, FilesNothing, FilesOn, at, filed_last, files_from, own_acts, opens_log, own_boot, own_last, own_log}
 
 same_any : (a b : AnyNode) → Some a ≡ Some b → a ≡ b
 same_any a b fact = cc
@@ -40,15 +38,6 @@ one_log a b fact = cc
 no_node : (x : AnyNode) → None ≡ Some x → ⊥
 no_node x fact = cc
 
--- where nothing is acted
-anew_none : (log : LogId) (o : Option AnyNode) → FilesAnew log o []
-anew_none log None = tt
-anew_none log (Some (any.Client c)) = tt
-anew_none log (Some (any.Manager m)) = λ none. tt
-anew_none log (Some (any.Server v)) = tt
-anew_none log (Some (any.Cleaner c)) = tt
-anew_none log (Some (any.Registry r)) = tt
-
 no_more : (xs : List Act) → drop (length xs) xs ≡ []
 no_more [] = refl
 no_more (x ∷ xs) = no_more xs
@@ -58,7 +47,6 @@ module _ (name : NodeId) where
   pub record Turned (Holds : ℕ → AnyNode → Type 0) (last : ℕ) (x : AnyNode) (what : Do) : Type 0 where
     pub holds : Holds (filed_last (files_from (Some x) last) (any_step x what).acts) (any_step x what).node
     pub numbers : (log : LogState) → own_log (Some x) ≡ Some log → FilesOn (log_of name) log.inc last (any_step x what).acts
-    pub begins : FilesAnew (log_of name) (Some x) (any_step x what).acts
     pub opens : own_log (Some x) ≡ None → (log : LogState) → own_log (Some (any_step x what).node) ≡ Some log → log.inc ≡ own_boot (Some (any_step x what).node)
     pub stays : (was log : LogState) → own_log (Some x) ≡ Some was → own_log (Some (any_step x what).node) ≡ Some log → log.inc ≡ was.inc
 
@@ -71,7 +59,12 @@ module _ (name : NodeId) where
     pub ends : (last : ℕ) (x : AnyNode) (log : LogState) → Holds last x → own_log (Some x) ≡ Some log → log.end.seq ≡ last
     pub turns : (last : ℕ) (x : AnyNode) (what : Do) → Holds last x → Turned Holds last x what
 
-module _ (e : Estate AnyNode) (name : NodeId) (kind : Kind name e) where
+-- in an event before which its log isn't open each files nothing, but by the one in which the log that it opens is open
+abbrev pub FilesOpenAlone : Type 0
+FilesOpenAlone = (x : AnyNode) (what : Do) → own_log (Some x) ≡ None → (opens_log (Some x) ≡ true → own_log (Some (any_step x what).node) ≡ None)
+    → FilesNothing (any_step x what).acts
+
+module _ (e : Estate AnyNode) (name : NodeId) (kind : Kind name e) (alone : FilesOpenAlone) where
   open kind use {Holds}
 
   abbrev last : ℕ → ℕ
@@ -209,19 +202,24 @@ module _ (e : Estate AnyNode) (name : NodeId) (kind : Kind name e) where
           let t : Turned name Holds (last count) took.0 (what_of event) = kind.turns (last count) took.0 (what_of event) (holds_at count took.0 there) in
           subst (FilesOn (log_of name) log.inc (last count)) (sym (acted count event happens took.0 took.1)) (t.numbers log (sym (ap own_log there) ∙ is))
 
-  begins_so : (count : ℕ) (event : Event) → slice_get e.events count ≡ Some event → node_of event ≡ name
-      → FilesAnew (log_of name) (at e name count) (acts_in (moment e count) event)
-  begins_so count event happens named = by (takes_or_not (moment e count) event)
+  -- where its log isn't open before the event
+  nothing_so : (count : ℕ) (event : Event) → slice_get e.events count ≡ Some event → node_of event ≡ name → own_log (at e name count) ≡ None
+      → (opens_log (at e name count) ≡ true → own_log (at e name (suc count)) ≡ None) → FilesNothing (acts_in (moment e count) event)
+  nothing_so count event happens named closed behind = by (takes_or_not (moment e count) event)
     where
-      by : NothingHappens (moment e count) event ⊎ ((x : AnyNode) × Took (moment e count) event x)
-          → FilesAnew (log_of name) (at e name count) (acts_in (moment e count) event)
-      by (inl none) =
-          subst (FilesAnew (log_of name) (at e name count)) (sym (nothing_acted count event happens none)) (anew_none (log_of name) (at e name count))
+      w : World AnyNode
+      w = moment e count
+
+      by : NothingHappens w event ⊎ ((x : AnyNode) × Took w event x) → FilesNothing (acts_in w event)
+      by (inl none) = subst FilesNothing (sym (nothing_acted count event happens none)) tt
       by (inr took) =
-          let there : at e name count ≡ Some took.0 = ap (node_named (moment e count)) (sym named) ∙ took_at count event happens took.0 took.1 in
-          let t : Turned name Holds (last count) took.0 (what_of event) = kind.turns (last count) took.0 (what_of event) (holds_at count took.0 there) in
-          subst (λ (o : Option AnyNode). FilesAnew (log_of name) o (acts_in (moment e count) event)) (sym there)
-          (subst (FilesAnew (log_of name) (Some took.0)) (sym (acted count event happens took.0 took.1)) t.begins)
+          let there : at e name count ≡ Some took.0 = ap (node_named w) (sym named) ∙ took_at count event happens took.0 took.1 in
+          let after : at e name (suc count) ≡ Some (any_step took.0 (what_of event)).node =
+          ap (λ (v : World AnyNode). node_named v name) (moment_next e count event happens)
+          ∙ (ap (λ k. node_in (next_world any_step w event).nodes (place_of k name)) (next_cluster any_step w event)
+          ∙ (ap (λ n. node_in (next_world any_step w event).nodes (place_of w.cluster n)) (sym named) ∙ node_then w.cluster w refl event took.0 took.1)) in
+          subst FilesNothing (sym (acted count event happens took.0 took.1))
+          (alone took.0 (what_of event) (sym (ap own_log there) ∙ closed) (λ opens. sym (ap own_log after) ∙ behind (ap opens_log there ∙ opens)))
 
   -- ---- from one moment to the next
 
@@ -279,4 +277,4 @@ module _ (e : Estate AnyNode) (name : NodeId) (kind : Kind name e) where
           t.stays old log before (ap (λ (z : AnyNode). own_log (Some z)) (sym step.1) ∙ some)
 
   pub files_its_log : FilesItsLog e name
-  files_its_log = record { numbers = numbers_so; begins = begins_so; ends = ends_so; opens = opens_so; stays = stays_so }
+  files_its_log = record { numbers = numbers_so; nothing = nothing_so; ends = ends_so; opens = opens_so; stays = stays_so }
