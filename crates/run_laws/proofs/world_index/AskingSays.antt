@@ -75,7 +75,7 @@ asks_either [] ys ask name asks = inr asks
 asks_either (e ∷ xs) ys ask name (inl asks) = inl (inl asks)
 asks_either (e ∷ xs) ys ask name (inr asks) = elim (asks_either xs ys ask name asks) [ inl x ↦ inl (inr x) | inr y ↦ inr y ]
 
-both_books : (book : Book) (xs ys : List Effect) (ask : ℕ) (name : SegName) → book_with book (xs ++ ys) ask name → book_with (book_with book xs) ys ask name
+pub both_books : (book : Book) (xs ys : List Effect) (ask : ℕ) (name : SegName) → book_with book (xs ++ ys) ask name → book_with (book_with book xs) ys ask name
 both_books book xs ys ask name (inl fact) = inl (inl fact)
 both_books book xs ys ask name (inr asks) = elim (asks_either xs ys ask name asks) [ inl x ↦ inl (inr x) | inr y ↦ inr y ]
 
