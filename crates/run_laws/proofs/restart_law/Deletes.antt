@@ -1,5 +1,5 @@
 -- What a server is told to delete was dropped, at each moment of every run of the small world of a log.
-use Rattle.std.proofs.Common.{◌⊎◌, ⊎_elim, ℕ, ◌&&◌, List, [], ◌∷◌, ◌++◌, Option, Some, None, inl, inr}
+use Rattle.std.proofs.Common.{⊎_elim, ℕ, ◌&&◌, List, [], ◌∷◌, ◌++◌, Option, Some, None, inl, inr}
 use Rattle.client_log.specs.declared.output.Out as log_outs
 use Rattle.client_log.specs.declared.output.Out.TheVariants as log_out
 use Rattle.client_log.specs.Transition as log

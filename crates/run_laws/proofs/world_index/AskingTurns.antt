@@ -43,7 +43,6 @@ use Rattle.run_laws.proofs.world_index.AskingSays.{AllSilent, IsSilent, IsSilent
 use Rattle.run_laws.proofs.world_index.AskingServing as serving
 use Rattle.xfs_base.specs.declared.node.NodeId.{NodeId}
 use Rattle.xfs_base.specs.declared.node.NodeId.TheVariants.{Manager}
-use Rattle.xfs_base.specs.Steps.{still}
 use Rattle.xfs_base.proofs.Alls.{all_weaker}
 
 -- ---- what an opening does

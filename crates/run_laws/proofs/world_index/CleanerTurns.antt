@@ -1,5 +1,5 @@
 -- The cleaner that has its turn: the moment after it stands to the small world that runs on with its log and its job.
-use Rattle.std.proofs.Common.{◌≡◌, ◌⊎◌, ⊎_elim, ℕ, List, ◌++◌, Some, inl, inr, map, slice_get, slice_set, sym, ap, ◌∙◌, arith}
+use Rattle.std.proofs.Common.{◌≡◌, ⊎_elim, ℕ, List, ◌++◌, Some, inl, inr, map, slice_get, slice_set, sym, ap, ◌∙◌, arith}
 use Rattle.std.proofs.lemmas.List.Elements.{All-from_recursion, recursion_from_All}
 use Rattle.std.specs.List.{All}
 use Rattle.cleaner_node.specs.CleanerEvents.{takes}

@@ -1,5 +1,5 @@
 -- A client's own event: the small worlds know the same of its log then as they did, what is filed of it tells of each block once, and its fall is told.
-use Rattle.std.proofs.Common.{◌≡◌, ⊎_elim, inl, inr, ◌++◌, ℕ, suc, true, false, List, refl, sym, ap, subst, ◌∙◌, arith}
+use Rattle.std.proofs.Common.{◌≡◌, inl, inr, ◌++◌, ℕ, suc, true, false, List, refl, sym, ap, subst, ◌∙◌, arith}
 use Rattle.std.specs.Prelude.{IfSome}
 use Rattle.act_tie.specs.BlockActs.{is_adopted}
 use Rattle.client_log.specs.LogState.{LogState}

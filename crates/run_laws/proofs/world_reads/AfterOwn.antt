@@ -1,6 +1,6 @@
 -- The log of an owner over an event of its own, whichever kind of segments it writes: what is known of it then, where its owner doesn't serve, serves on, or
 -- serves again.
-use Rattle.std.proofs.Common.{◌≡◌, ◌⊎◌, ◌≤◌, ℕ, suc, true, false, List, [], Option, Some, None, is_some, inl, inr, sym, ap, subst, ◌∙◌}
+use Rattle.std.proofs.Common.{◌≡◌, ◌⊎◌, ◌≤◌, ℕ, suc, true, false, [], Option, Some, None, is_some, inl, inr, sym, ap, subst, ◌∙◌}
 use Rattle.std.specs.Prelude.{IfSome}
 use Rattle.client_log.specs.LogState.{LogState}
 use Rattle.node_logs.specs.client_log_tie.ClientEvents.{ServesStraight}
