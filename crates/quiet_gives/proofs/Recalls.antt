@@ -10,7 +10,6 @@ use Rattle.token_manager.specs.declared.input.In.TheVariants as input
 use Rattle.token_manager.specs.declared.output.Out.TheVariants as out
 use Rattle.token_manager.specs.SlotState.{SlotState}
 use Rattle.token_manager.specs.Transition.{slot_finish, gave_noted, has_turns, is_dropped, transition, want_of}
-use Rattle.wire_msg.specs.declared.tokens.Gave.{Gave}
 use Rattle.xfs_base.proofs.BlockOrder.{block_cmp_total}
 use Rattle.xfs_base.specs.Blocks.{block_cmp}
 use Rattle.xfs_base.specs.declared.block.BlockId.{BlockId}

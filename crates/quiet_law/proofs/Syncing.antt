@@ -1,5 +1,5 @@
 -- A sync where something waits: from one drained state to the next by 2n + 16 deliveries, where n members have the group of the next segment.
-use Rattle.std.proofs.Common.{◌≡◌, inl, ℕ, suc, ◌+◌, ◌-◌, ◌*◌, ◌<◌, ◌≤◌, Bool, true, cond, List, [], ◌∷◌, ◌++◌, map, length, slice_index, Option, Some, None, refl, sym, ap, subst, ◌∙◌, append-nil, arith}
+use Rattle.std.proofs.Common.{◌≡◌, inl, ℕ, suc, ◌+◌, ◌*◌, ◌<◌, ◌≤◌, Bool, true, cond, List, [], ◌∷◌, ◌++◌, map, length, slice_index, Option, Some, None, refl, sym, ap, subst, ◌∙◌, append-nil, arith}
 use Rattle.std.proofs.lemmas.Option.{slice_get_within}
 use Rattle.client_call.specs.Calls.{call_new}
 use Rattle.client_call.specs.declared.call.Call.{Call}
@@ -47,7 +47,7 @@ use Rattle.quiet_nodes.proofs.Tests.{lt_test, other_test, same_test}
 use Rattle.quiet_law.proofs.Beginning.{AnswersIt, ends_by}
 use Rattle.quiet_law.proofs.Counters.{calm_turns}
 use Rattle.quiet_law.proofs.Keeping.{calm_more, idle_room}
-use Rattle.quiet_law.proofs.Synced.{CanSeal, idle_can, none_waits, rows_low}
+use Rattle.quiet_law.proofs.Synced.{CanSeal, idle_can, none_waits}
 use Rattle.quiet_law.proofs.Tailing.{tail_drained}
 use Rattle.quiet_law.proofs.Writing as writing
 use Rattle.quiet_law.proofs.Writing.{IsReady, LastSo, NotedSo, acts_are, count_is, its, lands, of_log, told_at, waits, writes_on}

@@ -1,5 +1,5 @@
 -- What a client puts fits the format of a segment, by the test that it puts by.
-use Rattle.std.proofs.Common.{◌≡◌, ◌<◌, ℕ, ◌+◌, ◌^◌, ◌&&◌, Bool, true, List, length, Option, None, nat_lt, cond, refl, sym, ap, subst, ◌∙◌, arith}
+use Rattle.std.proofs.Common.{◌≡◌, ◌<◌, ℕ, ◌+◌, ◌^◌, ◌&&◌, Bool, true, List, Option, None, nat_lt, cond, refl, sym, ap, subst, ◌∙◌, arith}
 use Rattle.std.proofs.lemmas.Bool.{ltb-true}
 use Rattle.client_call.proofs.Fits.{block_is_fit, value_has_bytes, value_has_length}
 use Rattle.client_call.specs.Fitting.{block_fits, value_fits, put_fits}

@@ -6,7 +6,7 @@ use Rattle.std.proofs.lemmas.List.Elements.{All-nil, All-cons}
 use Rattle.std.proofs.lemmas.Bool.{eqb-true}
 use Rattle.xfs_base.proofs.Booleans.{by_test, and_first, and_second}
 use Rattle.xfs_base.specs.declared.node.NodeId.{NodeId}
-use Rattle.xfs_base.specs.declared.node.NodeId.TheVariants.{Client, Manager, Server, Cleaner, Registry}
+use Rattle.xfs_base.specs.declared.node.NodeId.TheVariants.{Client, Server}
 use Rattle.xfs_base.specs.declared.segment.LogId.{LogId}
 use Rattle.group_map.specs.GroupMapState.{GroupMapState}
 use Rattle.segment_reading.specs.declared.reading.Stage as readings

@@ -6,7 +6,7 @@ use Rattle.client_log.specs.History.{state_after}
 use Rattle.client_log.specs.LogState.{LogState}
 use Rattle.client_log.specs.Transition.{transition}
 use Rattle.log_law.specs.Net.{Net, Owner, flown_with}
-use Rattle.log_law.specs.Net.Owner.{Down, Opening, Writing, Serving}
+use Rattle.log_law.specs.Net.Owner.{Serving}
 use Rattle.segment_format.specs.declared.segment.Segment.{Segment}
 use Rattle.node_logs.specs.client_log_tie.Puts.{LogTook, flown_after}
 use Rattle.xfs_base.proofs.StepLoops.{steps_both}

@@ -29,7 +29,7 @@ use Rattle.node_base.specs.declared.effects.Effect.TheVariants.{Lose}
 use Rattle.segment_reading.specs.declared.reading.Next.{Next}
 use Rattle.segment_reading.specs.declared.reading.Next.TheVariants as next
 use Rattle.segment_reading.specs.declared.reading.Stage.{Stage}
-use Rattle.segment_reading.specs.declared.reading.Stage.TheVariants.{Asking, Between, Doubted, Over}
+use Rattle.segment_reading.specs.declared.reading.Stage.TheVariants.{Between}
 use Rattle.segment_reading.specs.declared.target.BlockAt.{BlockAt}
 use Rattle.segment_reading.specs.declared.target.Target.{Target}
 use Rattle.segment_reading.specs.Reading.{ReadingState, Step, reading_start, reading_unanswered, on_confirmed}

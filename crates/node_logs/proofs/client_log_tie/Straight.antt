@@ -9,7 +9,7 @@ use Rattle.log_scan.specs.ScanState.{ScanState}
 use Rattle.log_scan.specs.Transition as scan
 use Rattle.log_tie.specs.Setting.{Setting}
 use Rattle.log_law.specs.Events.{Happens, Runs}
-use Rattle.log_law.specs.Events.Happens.{Acts, Bars, Crashes, Drops, Hears, Lists, Opens, Publishes, Raises, Renews, Restarts, Serves, Welcomes, Writes}
+use Rattle.log_law.specs.Events.Happens.{Opens, Renews, Restarts, Writes}
 use Rattle.log_law.specs.Events.Runs.{Begun, On}
 use Rattle.log_law.specs.Net.{Net, Owner, Told, after_flight, after_told, chain_in}
 use Rattle.log_law.specs.Net.Owner.{Down, Opening, Serving, Writing}

@@ -21,7 +21,7 @@ use Rattle.log_protocol.specs.Tables.{In}
 use Rattle.log_tie.specs.Setting.{Setting, fragment_of}
 use Rattle.log_law.specs.Net.{Net, Told, flown_with, chain_in, first_write, after_flight, after_told}
 use Rattle.log_law.specs.Events.{IsWritten, WritesText, StartsWith, Happens, Runs}
-use Rattle.log_law.specs.Events.Happens.{Acts, Writes, Opens, Crashes, Restarts, Renews, Serves, Bars, Lists, Hears, Raises, Publishes, Welcomes, Drops}
+use Rattle.log_law.specs.Events.Happens.{Acts, Writes, Opens}
 use Rattle.log_law.specs.Events.Runs.{Begun, On}
 use Rattle.log_law.specs.Laws.{OneText, OneNameOneText}
 use Rattle.node_logs.specs.manager_log_tie.Told.{WhatIsToldIsInRange}

@@ -18,7 +18,7 @@ use Rattle.stripe_cleaner.specs.declared.input.In.TheVariants as input
 use Rattle.stripe_cleaner.specs.declared.output.Out.{Out}
 use Rattle.stripe_cleaner.specs.declared.output.Out.TheVariants as out
 use Rattle.stripe_cleaner.specs.declared.phase.Phase.{Phase}
-use Rattle.stripe_cleaner.specs.declared.phase.Phase.TheVariants.{Greeting, Listing, Counting, Reading, Checking, Deleting, Over}
+use Rattle.stripe_cleaner.specs.declared.phase.Phase.TheVariants.{Greeting, Listing, Counting, Over}
 use Rattle.stripe_cleaner.specs.Transition.{Done, transition}
 use Rattle.log_scan.specs.Transition as scan
 use Rattle.log_scan.specs.Transition.{horizon_of}

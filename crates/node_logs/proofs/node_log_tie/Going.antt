@@ -22,7 +22,7 @@ use Rattle.log_tie.specs.Shelves.{is_stored, Deed, shelf_after}
 use Rattle.log_tie.specs.Shelves.Deed.{Stores, Fetches, Fences, Deletes, Fills, Loses}
 use Rattle.log_law.specs.Net.{Net, Packet, Told, log_packets, scan_packets, chain_in, first_write, answers, after_flight, after_told}
 use Rattle.log_law.specs.Events.{CameToServer, Happens, Runs}
-use Rattle.log_law.specs.Events.Happens.{Acts, Writes, Opens, Crashes, Restarts, Renews, Serves, Bars, Lists, Hears, Raises, Publishes, Welcomes, Drops}
+use Rattle.log_law.specs.Events.Happens.{Acts, Writes, Opens, Serves, Bars, Lists, Raises, Publishes, Welcomes, Drops}
 use Rattle.log_law.specs.Events.Runs.{Begun, On}
 use Rattle.node_logs.proofs.node_log_tie.Sight.{Later}
 use Rattle.node_logs.proofs.node_log_tie.Sights.{at_once, then_later}

@@ -17,11 +17,11 @@ use Rattle.log_protocol.specs.Tables.{In}
 use Rattle.log_tie.specs.Scans.{WholeMap}
 use Rattle.log_tie.specs.Setting.{Setting}
 use Rattle.log_tie.specs.Shelves.{is_of_log, is_stored, Deed}
-use Rattle.log_tie.specs.Shelves.Deed.{Stores, Fetches, Fences, Deletes, Fills, Loses}
+use Rattle.log_tie.specs.Shelves.Deed.{Stores, Fetches, Fences}
 use Rattle.log_law.specs.Net.{Net, Packet, Told, log_packets, scan_packets, chain_in, first_write, fragment_told, answers, after_flight, after_told, opening}
 use Rattle.log_law.specs.Net.Packet.{MapSent}
 use Rattle.log_law.specs.Events.{Happens, Runs}
-use Rattle.log_law.specs.Events.Happens.{Acts, Writes, Opens, Crashes, Restarts, Renews, Serves, Bars, Lists, Hears, Raises, Publishes, Welcomes, Drops}
+use Rattle.log_law.specs.Events.Happens.{Acts, Writes, Opens, Serves, Lists, Publishes, Welcomes, Drops}
 use Rattle.log_law.specs.Events.Runs.{Begun, On}
 use Rattle.log_law.specs.Laws.{Moment}
 use Rattle.node_logs.specs.node_log_tie.ServerEvents.{NamesStripes, MapsName}

@@ -11,7 +11,7 @@ use Rattle.segment_format.specs.Ranges.{FitsRow}
 use Rattle.segment_reading.specs.Reading.{ReadingState}
 use Rattle.checkpoint.specs.WriterState.{Rows, WriterState}
 use Rattle.client_log.specs.declared.input.In.{In as Input}
-use Rattle.client_log.specs.declared.input.In.TheVariants.{Put, Parts, Seal, Acked, Maps, Tick}
+use Rattle.client_log.specs.declared.input.In.TheVariants.{Put, Parts, Maps}
 use Rattle.client_log.specs.History.{state_after}
 use Rattle.client_log.specs.LogState.{LogState}
 use Rattle.manager_slots.specs.declared.slot_phase.SlotPhase.{SlotPhase}

@@ -20,7 +20,7 @@ use Rattle.log_flight.specs.Fate.{fate_of}
 use Rattle.log_flight.specs.Flights.{FlightState, is_noted, is_of, flight_note}
 use Rattle.log_flight.specs.Texts.{has_text}
 use Rattle.client_log.specs.declared.input.In.{In}
-use Rattle.client_log.specs.declared.input.In.TheVariants.{Put, Parts, Seal, Acked, Maps, Tick}
+use Rattle.client_log.specs.declared.input.In.TheVariants.{Acked, Maps, Tick}
 use Rattle.client_log.specs.declared.output.Out.{Out}
 use Rattle.client_log.specs.declared.output.Out.TheVariants.{Settled}
 use Rattle.client_log.specs.LogState.{LogState}

@@ -12,7 +12,7 @@ use Rattle.coop_cache.specs.Transition.{cache_clean, cache_leave}
 use Rattle.token_client.specs.declared.input.In.{In}
 use Rattle.token_client.specs.declared.input.In.TheVariants as input
 use Rattle.token_client.specs.declared.output.Out.{Out}
-use Rattle.token_client.specs.declared.output.Out.TheVariants.{Want, Gave, Supply, Flush, Read, Ready}
+use Rattle.token_client.specs.declared.output.Out.TheVariants.{Flush, Read, Ready}
 use Rattle.token_client.specs.State.{held_of}
 use Rattle.token_client.specs.Transition.{transition}
 use Rattle.token_client.proofs.Promises.{Each}

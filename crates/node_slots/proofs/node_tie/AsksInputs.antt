@@ -15,7 +15,7 @@ use Rattle.token_client.specs.declared.held.Wanted.{Wanted}
 use Rattle.token_client.specs.declared.input.In.{In}
 use Rattle.token_client.specs.declared.input.In.TheVariants as input
 use Rattle.token_client.specs.declared.output.Out.{Out}
-use Rattle.token_client.specs.declared.output.Out.TheVariants.{Want, Gave, Supply, Flush, Read, Ready}
+use Rattle.token_client.specs.declared.output.Out.TheVariants.{Read, Ready}
 use Rattle.token_client.specs.Held.{is_asking, is_wanted, take_grant}
 use Rattle.token_client.specs.Laws.{IsSound}
 use Rattle.token_client.specs.State.{TokensState, held_of, tokens_start, with_held}

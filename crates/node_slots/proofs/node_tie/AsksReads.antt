@@ -23,7 +23,7 @@ use Rattle.segment_reading.specs.Reading.{ReadingState, on_confirmed}
 use Rattle.xfs_base.specs.Segments.{same_name}
 use Rattle.token_client.specs.declared.input.In.TheVariants as input
 use Rattle.token_client.specs.declared.output.Out.{Out}
-use Rattle.token_client.specs.declared.output.Out.TheVariants.{Want, Gave, Supply, Flush, Read, Ready}
+use Rattle.token_client.specs.declared.output.Out.TheVariants.{Flush, Read, Ready}
 use Rattle.token_client.specs.State.{TokensState}
 use Rattle.token_client.specs.Transition.{on_granted, transition}
 use Rattle.token_client.proofs.Readings.{quit_ends}

@@ -14,7 +14,7 @@ use Rattle.xfs_base.specs.Limits.{u32_end}
 use Rattle.token_client.specs.declared.held.Held.{Held}
 use Rattle.token_client.specs.declared.held.Wanted.{Wanted}
 use Rattle.token_client.specs.declared.output.Out.{Out}
-use Rattle.token_client.specs.declared.output.Out.TheVariants.{Want, Gave, Supply, Flush, Read, Ready}
+use Rattle.token_client.specs.declared.output.Out.TheVariants.{Want, Gave, Flush, Read, Ready}
 use Rattle.token_client.specs.Held.{is_dirty, is_asking, must_ask, is_wanted, is_answer, may_write, is_settled_by, may_end_fetch, may_evict, held_ask, asked_again, copy_of, end_fetch, held_write, version_settled, let_go, quit, unfetched, drop_promised, put_off, give_up}
 use Rattle.token_client.specs.Laws.{IsSound}
 use Rattle.token_client.specs.State.{TokensState, held_of, with_held, is_in_slot}

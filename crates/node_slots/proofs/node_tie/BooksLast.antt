@@ -4,7 +4,7 @@ use Rattle.std.proofs.lemmas.Bool.Decides.{nat_tests}
 use Rattle.xfs_base.specs.declared.block.BlockId.{BlockId}
 use Rattle.token_law.specs.Books.{Row, Books, sealed, filed, discarded, reopened, with_empty}
 use Rattle.token_law.specs.Net.{Net, Happens, Runs}
-use Rattle.token_law.specs.Net.Happens.{Acts, Elsewhere, Reports, GetsCopy, GetsOwn, Declines, GetsRecall, GetsForward, GetsSupply, Fetches, Reads, Syncs, Seals, Files, GetsDeltas, GetsWant, GetsGave, Ticks, Crashes, Returns, SealsCopies, FilesCopies, Reopens, Activates, Says}
+use Rattle.token_law.specs.Net.Happens.{Seals, Files, Returns, SealsCopies, FilesCopies, Reopens}
 use Rattle.token_law.specs.Net.Runs.{Begun, On}
 use Rattle.token_law.specs.Owed.{adopts}
 use Rattle.token_protocol.specs.Basics.{put}

@@ -2,7 +2,7 @@
 use Rattle.std.proofs.Common.{◌≡◌, ℕ, ◌≤◌, ◌<◌, Bool, true, false, List, [], Option, Some, None, refl, subst, ◌∙◌, arith}
 use Rattle.xfs_base.specs.Steps.{still, saying}
 use Rattle.xfs_base.specs.declared.node.NodeId.{NodeId}
-use Rattle.xfs_base.specs.declared.node.NodeId.TheVariants.{Client, Manager, Server, Cleaner, Registry}
+use Rattle.xfs_base.specs.declared.node.NodeId.TheVariants.{Client, Server, Cleaner}
 use Rattle.xfs_base.specs.Limits.{slot_count}
 use Rattle.xfs_base.specs.Logs.{cleaner_log}
 use Rattle.client_log.specs.declared.input.In.TheVariants as log_input

@@ -12,7 +12,7 @@ use Rattle.log_owner.specs.declared.opening.Opening.{Opening}
 use Rattle.log_owner.specs.declared.opening.Scanning.{Scanning}
 use Rattle.log_owner.specs.declared.opening.Settling.{Settling}
 use Rattle.log_owner.specs.declared.opening.Stage.{Stage}
-use Rattle.log_owner.specs.Opening.{Went, Moved, known_scanning, sent_send, scanned, written, known_go_on, known_write, behind, start_log, settles_over, scans_on, welcomed_with, welcomed, on_tick, opening_take, nothing_asked}
+use Rattle.log_owner.specs.Opening.{Went, Moved, known_scanning, scanned, written, known_go_on, known_write, behind, start_log, settles_over, scans_on, welcomed_with, welcomed, on_tick, opening_take, nothing_asked}
 use Rattle.log_owner.specs.Promised.{promised_of}
 use Rattle.log_scan.specs.declared.input.In.{In}
 use Rattle.log_scan.specs.declared.input.In.TheVariants as input
@@ -25,7 +25,6 @@ use Rattle.node_slots.proofs.node_index_tie.Moves.{some_none}
 use Rattle.segment_format.specs.declared.segment.Segment.{Segment}
 use Rattle.wire_msg.specs.declared.packet.Packet as packets
 use Rattle.wire_msg.specs.declared.registry.News.{News}
-use Rattle.wire_msg.specs.declared.registry.Welcome.{Welcome}
 use Rattle.xfs_base.proofs.Booleans.{by_test}
 use Rattle.xfs_base.specs.declared.segment.End.{End}
 use Rattle.xfs_base.specs.Steps.{still}

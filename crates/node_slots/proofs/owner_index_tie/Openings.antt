@@ -18,7 +18,6 @@ use Rattle.node_base.specs.declared.questions.Questions.{Questions}
 use Rattle.node_base.specs.Maps.{maps_take}
 use Rattle.wire_msg.specs.declared.packet.Packet.{Packet}
 use Rattle.wire_msg.specs.declared.registry.News.{News}
-use Rattle.wire_msg.specs.declared.registry.Welcome.{Welcome}
 use Rattle.node_moves.proofs.OpeningWalk.{Any, Walk, packet_so, tick_so}
 use Rattle.headline.specs.Filed.{Filed, Texts}
 use Rattle.index_tie.specs.Net.{Net}

@@ -14,7 +14,7 @@ use Rattle.log_owner.specs.declared.promised.Managers.{Managers}
 use Rattle.segment_format.specs.Rows.{rows_of}
 use Rattle.segment_format.specs.declared.segment.Segment.{Segment}
 use Rattle.node_base.specs.declared.effects.Effect.{Effect}
-use Rattle.node_base.specs.declared.effects.Effect.TheVariants.{Send, Answer, Lose, Does}
+use Rattle.node_base.specs.declared.effects.Effect.TheVariants.{Send}
 use Rattle.wire_msg.specs.declared.body.Body.{Body}
 use Rattle.wire_msg.specs.declared.body.Body.TheVariants as body
 use Rattle.xfs_base.specs.Limits.{u32_end, block_logs}

@@ -4,7 +4,7 @@ use Rattle.headline.specs.Filed.{Filed, IsSegment, Texts}
 use Rattle.index_tie.specs.Growth.{with_segment}
 use Rattle.index_tie.specs.Net.{Net}
 use Rattle.node_base.specs.declared.effects.Effect.{Effect}
-use Rattle.node_base.specs.declared.effects.Effect.TheVariants.{Send, Answer, Lose, Does}
+use Rattle.node_base.specs.declared.effects.Effect.TheVariants.{Does}
 use Rattle.node_slots.specs.node_index_tie.Sight.{RowsFit}
 use Rattle.segment_format.specs.declared.segment.Segment.{Segment}
 use Rattle.segment_format.specs.Rows.{rows_of}

@@ -11,7 +11,7 @@ use Rattle.log_owner.specs.declared.opening.Settling.{Settling}
 use Rattle.log_owner.specs.declared.opening.Stage.{Stage}
 use Rattle.log_owner.specs.declared.opening.Stage.TheVariants as stage
 use Rattle.node_base.specs.declared.effects.Effect.{Effect}
-use Rattle.node_base.specs.declared.effects.Effect.TheVariants.{Send, Answer, Lose, Does}
+use Rattle.node_base.specs.declared.effects.Effect.TheVariants.{Send}
 use Rattle.node_slots.specs.node_index_tie.OwnerEvents.{FeedSeen}
 use Rattle.node_slots.specs.node_index_tie.Pages.{FlightIsText}
 use Rattle.node_slots.specs.node_index_tie.Sight.{RowsFit, DeltasKnown, EndKnown}

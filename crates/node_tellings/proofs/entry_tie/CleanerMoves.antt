@@ -8,7 +8,7 @@ use Rattle.stripe_cleaner.specs.CleaningState.{CleaningState}
 use Rattle.stripe_cleaner.specs.Counting.{has_usage, is_counted, all_slots, awaited_slots}
 use Rattle.stripe_cleaner.specs.declared.checks.Check.{Check}
 use Rattle.stripe_cleaner.specs.declared.checks.Fate.{Fate}
-use Rattle.stripe_cleaner.specs.declared.checks.Fate.TheVariants.{Asked, Live, Moved, Dead}
+use Rattle.stripe_cleaner.specs.declared.checks.Fate.TheVariants.{Live}
 use Rattle.stripe_cleaner.specs.declared.input.In.{In}
 use Rattle.stripe_cleaner.specs.declared.input.In.TheVariants as input
 use Rattle.stripe_cleaner.specs.declared.output.Out.{Out}

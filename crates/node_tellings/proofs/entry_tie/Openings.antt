@@ -18,7 +18,7 @@ use Rattle.log_owner.specs.declared.opening.Settling.{Settling}
 use Rattle.log_owner.specs.declared.opening.Stage.{Stage}
 use Rattle.log_owner.specs.declared.opening.Stage.TheVariants as stage
 use Rattle.log_owner.specs.Opened.{filed}
-use Rattle.log_owner.specs.Opening.{Went, Moved, known_scanning, known_settling, sent_send, scanned, written, known_go_on, logged, known_write, behind, settles_over, known_follow, stepped, scans_on, welcomed_with, welcomed, on_tick, opening_take, nothing_asked}
+use Rattle.log_owner.specs.Opening.{Went, Moved, known_scanning, known_settling, scanned, written, known_go_on, logged, known_write, behind, settles_over, known_follow, stepped, scans_on, welcomed_with, welcomed, on_tick, opening_take, nothing_asked}
 use Rattle.log_owner.specs.Promised.{promised_of}
 use Rattle.log_owner.specs.Sending.{hello}
 use Rattle.log_scan.specs.declared.input.In.{In}
@@ -36,7 +36,6 @@ use Rattle.segment_format.specs.Rows.{rows_of}
 use Rattle.version_model.specs.declared.act.Act.{Act}
 use Rattle.wire_msg.specs.declared.packet.Packet.{Packet}
 use Rattle.wire_msg.specs.declared.registry.News.{News}
-use Rattle.wire_msg.specs.declared.registry.Welcome.{Welcome}
 use Rattle.xfs_base.proofs.Booleans.{by_test}
 use Rattle.xfs_base.specs.declared.segment.End.{End}
 use Rattle.xfs_base.specs.declared.segment.LogId.{LogId}

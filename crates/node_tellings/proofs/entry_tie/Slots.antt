@@ -2,7 +2,6 @@
 use Rattle.std.proofs.Common.{ℕ, List}
 use Rattle.slot_beliefs.specs.Index.{block_index_new}
 use Rattle.token_manager.specs.declared.input.In.{In as Input}
-use Rattle.token_manager.specs.declared.output.Out.{Out}
 use Rattle.token_manager.specs.SlotState.{SlotState}
 use Rattle.token_manager.specs.Transition.{slot_start, transition}
 use Rattle.xfs_base.specs.declared.block.BlockId.{BlockId}

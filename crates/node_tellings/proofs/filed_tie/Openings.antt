@@ -44,7 +44,6 @@ use Rattle.node_base.specs.Shape.{is_log, has_logs, is_news}
 use Rattle.wire_msg.specs.declared.body.Body.{Body}
 use Rattle.wire_msg.specs.declared.packet.Packet.{Packet}
 use Rattle.wire_msg.specs.declared.registry.News.{News}
-use Rattle.wire_msg.specs.declared.registry.Welcome.{Welcome}
 use Rattle.client_log.specs.LogState.{LogState}
 use Rattle.log_flight.specs.Flights.{FlightState}
 use Rattle.node_tellings.specs.filed_tie.OpeningReach.{AreOfLog, ScanReaches, SettlingReaches, StageReaches, OpeningReaches}

@@ -1,5 +1,5 @@
 -- Whatever a takeover is told, its news stay.
-use Rattle.std.proofs.Common.{◌≡◌, ◌+◌, ◌==◌, ◌&&◌, [], ◌∷◌, ◌++◌, length, refl}
+use Rattle.std.proofs.Common.{◌≡◌, ◌==◌, ◌&&◌, [], ◌∷◌, ◌++◌, length, refl}
 use Rattle.stripe_code.specs.declared.round.Told.TheVariants as told
 use Rattle.takeover.specs.declared.input.In.{In as Input}
 use Rattle.takeover.specs.declared.input.In.TheVariants as input

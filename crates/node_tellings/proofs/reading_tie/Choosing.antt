@@ -9,7 +9,7 @@ use Rattle.stripe_cleaner.specs.declared.input.In.TheVariants as input
 use Rattle.stripe_cleaner.specs.declared.output.Out.{Out}
 use Rattle.stripe_cleaner.specs.declared.output.Out.TheVariants as out
 use Rattle.stripe_cleaner.specs.declared.phase.Phase.{Phase}
-use Rattle.stripe_cleaner.specs.declared.phase.Phase.TheVariants.{Greeting, Listing, Counting, Reading, Checking, Deleting, Over}
+use Rattle.stripe_cleaner.specs.declared.phase.Phase.TheVariants.{Greeting, Listing, Counting, Over}
 use Rattle.stripe_cleaner.specs.Transition.{Done, transition}
 use Rattle.xfs_base.proofs.Alls.{all_each, all_weaker}
 use Rattle.node_moves.proofs.cleaner_moves.JobWalk.{WalkLaw, SegmentsSo, InputSo, OutSo, DoneSo, any_checks, any_live, walk_so}

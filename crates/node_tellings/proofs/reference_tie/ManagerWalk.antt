@@ -1,6 +1,5 @@
 -- Each part of a checkpoint that a manager keeps and tells, and each end that was reported to it, is what references of any kind say.
 use Rattle.std.proofs.Common.{List, [], ◌∷◌}
-use Rattle.std.specs.List.{AllByRecursion}
 use Rattle.log_owner.specs.Sending.{server_in}
 use Rattle.manager_node.specs.declared.phase.Phase.{Phase}
 use Rattle.manager_node.specs.declared.phase.Phase.TheVariants.{Down, Waiting, Serving as Serves}

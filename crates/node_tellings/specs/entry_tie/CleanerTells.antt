@@ -18,9 +18,9 @@ use Rattle.segment_format.specs.declared.segment.Item.TheVariants as item
 use Rattle.stripe_cleaner.specs.Checks.{moved_once}
 use Rattle.stripe_cleaner.specs.declared.checks.Check.{Check}
 use Rattle.stripe_cleaner.specs.declared.checks.Fate.{Fate}
-use Rattle.stripe_cleaner.specs.declared.checks.Fate.TheVariants.{Asked, Live, Moved, Dead}
+use Rattle.stripe_cleaner.specs.declared.checks.Fate.TheVariants.{Live}
 use Rattle.stripe_cleaner.specs.declared.phase.Phase as jobs
-use Rattle.stripe_cleaner.specs.declared.phase.Phase.TheVariants.{Greeting, Listing, Counting, Reading, Checking, Deleting, Over}
+use Rattle.stripe_cleaner.specs.declared.phase.Phase.TheVariants.{Checking}
 use Rattle.version_model.specs.declared.act.Act.{Act}
 use Rattle.version_model.specs.declared.work.Work.{Work}
 use Rattle.wire_msg.specs.declared.packet.Do.{Do}

@@ -6,7 +6,7 @@ use Rattle.log_owner.specs.declared.opening.Settling.{Settling}
 use Rattle.log_owner.specs.declared.opening.Stage.{Stage}
 use Rattle.log_owner.specs.declared.opening.Stage.TheVariants as stage
 use Rattle.log_scan.specs.declared.stage.Stage as scan_stages
-use Rattle.log_scan.specs.declared.stage.Stage.TheVariants.{Hails, Gathers, Asks, Reads, Over}
+use Rattle.log_scan.specs.declared.stage.Stage.TheVariants.{Reads}
 use Rattle.log_scan.specs.ScanState.{ScanState}
 use Rattle.segment_format.specs.declared.segment.Segment.{Segment}
 use Rattle.node_tellings.specs.filed_tie.Reach.{Reach}
