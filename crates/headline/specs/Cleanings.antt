@@ -18,23 +18,17 @@ use Rattle.stripe_cleaner.specs.Candidates.{candidates_with}
 use Rattle.stripe_cleaner.specs.Listing.{all_servers}
 use Rattle.stripe_code.specs.declared.round.Answer.{Answer as Reply}
 use Rattle.stripe_code.specs.declared.round.RoundState.TheVariants.{Short}
-use Rattle.stripe_code.specs.declared.round.Told.{Told}
-use Rattle.stripe_code.specs.declared.round.Told.TheVariants as told
 use Rattle.stripe_code.specs.Round.{RoundSoFar, round_start, round_take, state_of}
 use Rattle.token_protocol.specs.Basics.{In}
 use Rattle.version_model.specs.declared.act.Act.TheVariants as act
 use Rattle.version_model.specs.declared.answer.Answer.TheVariants as answer
-use Rattle.wire_msg.specs.declared.body.Body.{Body}
 use Rattle.wire_msg.specs.declared.body.Body.TheVariants as body
-use Rattle.wire_msg.specs.declared.packet.Packet.{Packet}
 use Rattle.wire_msg.specs.declared.registry.News.{News}
 use Rattle.wire_msg.specs.declared.registry.Welcome.{Welcome}
-use Rattle.wire_msg.specs.declared.storage.Found.{Found}
 use Rattle.wire_msg.specs.declared.storage.Listed.{Listed}
-use Rattle.wire_msg.specs.declared.storage.Missing.{Missing}
 use Rattle.world_base.specs.declared.estate.Estate.{Estate}
 use Rattle.world_base.specs.declared.event.Event.{Event}
-use Rattle.world_base.specs.declared.event.Event.TheVariants.{Begin, Deliver}
+use Rattle.world_base.specs.declared.event.Event.TheVariants.{Begin}
 use Rattle.world_base.specs.Events.{node_of}
 use Rattle.xfs_base.specs.declared.news.SlotNews.{SlotNews}
 use Rattle.xfs_base.specs.declared.node.NodeId.{NodeId}
@@ -42,8 +36,8 @@ use Rattle.xfs_base.specs.declared.node.NodeId.TheVariants as nodes
 use Rattle.xfs_base.specs.declared.segment.SegName.{SegName}
 use Rattle.xfs_base.specs.declared.segment.SegRef.{SegRef}
 use Rattle.xfs_base.specs.Limits.{u32_end}
-use Rattle.headline.specs.Checkpoints.{sent_in}
 use Rattle.headline.specs.Moments.{acts_in, moment, node_named}
+use Rattle.headline.specs.Tellings.{HasCome, HasTold, IsOfSegment}
 
 -- none of these has this name
 abbrev pub NoneNamed : SegName → List SegRef → Type 0
@@ -63,11 +57,6 @@ abbrev pub round_with : Group → List Reply → RoundSoFar
 round_with group replies =
     fold (λ (round : RoundSoFar) (r : Reply). round_take round r.server r.told) (round_start (length group.members) group.parity (servers_of group)) replies
 
--- of a segment, where a fragment was told
-abbrev pub IsToldOf : SegName → Told → Type 0
-IsToldOf name (told.Held fragment) = fragment.meta.name ≡ name
-IsToldOf name (told.Missing generation) = Unit {0}
-
 -- The item begins at the event at this place: the cleaner serves, and is to empty so many segments; its last question was this, and it knew these groups.
 pub record BeginsCleaning (e : Estate AnyNode) (item begun many last : ℕ) (groups : Option GroupMapState) : Type 0 where
   pub happens : slice_get e.events begun ≡ Some (Begin nodes.Cleaner)
@@ -82,56 +71,26 @@ pub record BeginsCleaning (e : Estate AnyNode) (item begun many last : ℕ) (gro
 
 -- of the cleaner, by the events behind the one at a place and before the one at another
 module _ (e : Estate AnyNode) (begun end : ℕ) where
-  -- this came to it from a node
-  pub record HasCome (from : NodeId) (said : Body) : Type 0 where
-    pub place : ℕ
-    pub since : begun < place
-    pub before : place < end
-    pub packet : Packet
-    pub happens : slice_get e.events place ≡ Some (Deliver packet)
-    pub to_it : packet.to ≡ nodes.Cleaner
-    pub from_it : packet.from ≡ from
-    pub says : packet.body ≡ said
-
   -- these groups it knew as the item began, or they came to it since
   pub data KnowsGroups (at_first : Option GroupMapState) (groups : GroupMapState) : Type 0 where
     AtFirst : at_first ≡ Some groups → KnowsGroups at_first groups
-    ByNews : (from : NodeId) (news : News) → HasCome from (body.MapNews news) → news.groups ≡ groups → KnowsGroups at_first groups
-    ByWelcome : (from : NodeId) (welcome : Welcome) → HasCome from (body.Welcome welcome) → welcome.news.groups ≡ groups → KnowsGroups at_first groups
-
-  -- under a question a server told of its fragment: the fragment, or that it has none, and its generation
-  abbrev pub HasTold : ℕ → ℕ → Told → Type 0
-  HasTold ask from (told.Held fragment) =
-      (found : Found) × HasCome (nodes.Server from) (body.Fragment found) × (found.ask ≡ ask) × (found.fragment ≡ fragment)
-  HasTold ask from (told.Missing generation) =
-      (missing : Missing) × HasCome (nodes.Server from) (body.Missing missing) × (missing.ask ≡ ask) × (missing.generation ≡ generation)
-
-  -- it asked a server for its fragment of a segment, under a question
-  pub record HasAsked (name : SegName) (ask server : ℕ) : Type 0 where
-    pub place : ℕ
-    pub since : begun < place
-    pub before : place < end
-    pub event : Event
-    pub happens : slice_get e.events place ≡ Some event
-    pub packet : Packet
-    pub sent : In packet (sent_in (moment e place) event)
-    pub from_it : packet.from ≡ nodes.Cleaner
-    pub to_server : packet.to ≡ nodes.Server server
-    pub says : packet.body ≡ body.Fetch (record { name = name; ask = ask })
+    ByNews : (from : NodeId) (news : News) → HasCome e nodes.Cleaner begun end from (body.MapNews news) → news.groups ≡ groups → KnowsGroups at_first groups
+    ByWelcome : (from : NodeId) (welcome : Welcome) → HasCome e nodes.Cleaner begun end from (body.Welcome welcome) → welcome.news.groups ≡ groups
+        → KnowsGroups at_first groups
 
   -- All that there is to empty, since the item began, as which the last question was this: by a Welcome that answers a newer one, whichever that was, and by
   -- the lists of all servers under one newer question.
   pub record AreCandidates (last : ℕ) (at_first : Option GroupMapState) (candidates : List (SegName × ℕ)) : Type 0 where
     pub from : NodeId
     pub welcome : Welcome
-    pub welcomed : HasCome from (body.Welcome welcome)
+    pub welcomed : HasCome e nodes.Cleaner begun end from (body.Welcome welcome)
     pub answers : last < welcome.ask
     pub groups : GroupMapState
     pub known : KnowsGroups at_first groups
     pub ask : ℕ
     pub newer : last < ask
     pub lists : List (ℕ × Listed)
-    pub come : AllByRecursion (λ (list : ℕ × Listed). HasCome (nodes.Server list.0) (body.Listed list.1)) lists
+    pub come : AllByRecursion (λ (list : ℕ × Listed). HasCome e nodes.Cleaner begun end (nodes.Server list.0) (body.Listed list.1)) lists
     pub asked : AllByRecursion (λ (list : ℕ × Listed). list.1.ask ≡ ask) lists
     pub all : (server : ℕ) → In server (all_servers groups.servers) → In server (map (λ (list : ℕ × Listed). list.0) lists)
     pub are : candidates ≡ candidates_by welcome.news.slots lists
@@ -146,13 +105,12 @@ module _ (e : Estate AnyNode) (begun end : ℕ) where
     pub own : node_of event ≡ nodes.Cleaner
     pub acted : In (act.Dropped name) (acts_in (moment e place) event)
 
-  -- A round over a group, under a question, ended without the segment: all servers replied, each of which was asked for this segment under it, too few
+  -- A round over a group, under a question, ended without the segment: all servers replied, each of which had been asked for this segment under it, too few
   -- with a fragment of it, and these pairs of a server and its generation had none.
   pub record MissesUnder (name : SegName) (group : Group) (ask : ℕ) (pairs : List (ℕ × ℕ)) : Type 0 where
     pub replies : List Reply
-    pub asked : AllByRecursion (λ (r : Reply). HasAsked name ask r.server) replies
-    pub come : AllByRecursion (λ (r : Reply). HasTold ask r.server r.told) replies
-    pub fit : AllByRecursion (λ (r : Reply). IsToldOf name r.told) replies
+    pub come : AllByRecursion (λ (r : Reply). HasTold e nodes.Cleaner begun end name ask r.server r.told) replies
+    pub fit : AllByRecursion (λ (r : Reply). IsOfSegment name r.told) replies
     pub among : AllByRecursion (λ (r : Reply). In r.server (servers_of group)) replies
     pub is : state_of (round_with group replies) ≡ Short pairs
 

@@ -21,6 +21,7 @@ pub mod Answers
 pub mod Standings
 pub mod Files
 pub mod Dues
+pub mod Tellings
 pub mod Numbers
 pub mod Checkpoints
 pub mod Cleanings

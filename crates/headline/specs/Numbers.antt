@@ -17,22 +17,16 @@ use Rattle.store_nodes.specs.declared.server.Server.{Server as Node}
 use Rattle.stripe_code.specs.declared.round.Answer.{Answer as Reply}
 use Rattle.stripe_code.specs.declared.round.RoundState.{RoundState}
 use Rattle.stripe_code.specs.declared.round.RoundState.TheVariants.{Read, Short}
-use Rattle.stripe_code.specs.declared.round.Told.{Told}
-use Rattle.stripe_code.specs.declared.round.Told.TheVariants as told
 use Rattle.stripe_code.specs.Round.{state_of}
 use Rattle.token_protocol.specs.Basics.{In}
 use Rattle.version_model.specs.declared.act.Act.{Act}
 use Rattle.version_model.specs.declared.act.Act.TheVariants as act
 use Rattle.version_model.specs.declared.answer.Answer.TheVariants as answer
-use Rattle.wire_msg.specs.declared.body.Body.{Body}
 use Rattle.wire_msg.specs.declared.body.Body.TheVariants as body
-use Rattle.wire_msg.specs.declared.packet.Packet.{Packet}
-use Rattle.wire_msg.specs.declared.storage.Found.{Found}
 use Rattle.wire_msg.specs.declared.storage.Listed.{Listed}
-use Rattle.wire_msg.specs.declared.storage.Missing.{Missing}
 use Rattle.world_base.specs.declared.estate.Estate.{Estate}
 use Rattle.world_base.specs.declared.event.Event.{Event}
-use Rattle.world_base.specs.declared.event.Event.TheVariants.{Begin, Deliver}
+use Rattle.world_base.specs.declared.event.Event.TheVariants.{Begin}
 use Rattle.world_base.specs.Events.{node_of}
 use Rattle.xfs_base.specs.declared.fragment.FragMeta.{FragMeta}
 use Rattle.xfs_base.specs.declared.node.NodeId.{NodeId}
@@ -40,8 +34,9 @@ use Rattle.xfs_base.specs.declared.node.NodeId.TheVariants as nodes
 use Rattle.xfs_base.specs.declared.segment.SegName.{SegName}
 use Rattle.xfs_base.specs.Limits.{u32_end}
 use Rattle.headline.specs.Items.{items_in}
-use Rattle.headline.specs.Moments.{acts_in, moment, node_named, sent_in}
+use Rattle.headline.specs.Moments.{acts_in, moment, node_named}
 use Rattle.headline.specs.Servers.{shelf_at}
+use Rattle.headline.specs.Tellings.{HasCome, HasTold, IsOfSegment}
 
 -- by name, what servers that told such lists say of their fragments
 abbrev pub listed_by : List (ℕ × Listed) → List (SegName × FragMeta)
@@ -54,59 +49,18 @@ pub record BeganAt (e : Estate AnyNode) (name : NodeId) (item place : ℕ) : Typ
   pub its : node_named (moment e place) name ≡ Some node
   pub next : next_item (items_in node) ≡ Some item
 
--- of a segment, where a fragment was told
-abbrev pub IsToldOf : Wanted → Told → Type 0
-IsToldOf w (told.Held fragment) = fragment.meta.name ≡ w.meta.name
-IsToldOf w (told.Missing generation) = Unit {0}
-
 -- another member of the segment's group replied, and a fragment that it told is one of the segment
 abbrev pub IsReplyOf : Wanted → Reply → Type 0
-IsReplyOf w r = In r.server w.others × IsToldOf w r.told
+IsReplyOf w r = In r.server w.others × IsOfSegment w.meta.name r.told
 
 -- of a server, by the events behind the one at a place and before the one at another
 module _ (e : Estate AnyNode) (server begun end : ℕ) where
-  -- this came to it from another server
-  pub record HasCome (from : ℕ) (said : Body) : Type 0 where
-    pub place : ℕ
-    pub since : begun < place
-    pub before : place < end
-    pub packet : Packet
-    pub happens : slice_get e.events place ≡ Some (Deliver packet)
-    pub to_it : packet.to ≡ nodes.Server server
-    pub from_it : packet.from ≡ nodes.Server from
-    pub says : packet.body ≡ said
-
-  -- it asked another server for its fragment of a segment, under a question
-  pub record HasAsked (name : SegName) (ask other : ℕ) : Type 0 where
-    pub place : ℕ
-    pub since : begun < place
-    pub before : place < end
-    pub event : Event
-    pub happens : slice_get e.events place ≡ Some event
-    pub packet : Packet
-    pub sent : In packet (sent_in (moment e place) event)
-    pub from_it : packet.from ≡ nodes.Server server
-    pub to_other : packet.to ≡ nodes.Server other
-    pub says : packet.body ≡ body.Fetch (record { name = name; ask = ask })
-
--- of a server, by the events behind the one at a place and before the one at another
-module _ (e : Estate AnyNode) (server begun end : ℕ) where
-  -- Another server had been asked for its fragment of a segment, under a question, and then told under that question: the fragment, or that it has none, and its
-  -- generation.
-  abbrev pub HasTold : SegName → ℕ → ℕ → Told → Type 0
-  HasTold name ask from (told.Held fragment) =
-      (found : Found) × (come : HasCome e server begun end from (body.Fragment found)) × HasAsked e server begun come.place name ask from × (found.ask ≡ ask)
-      × (found.fragment ≡ fragment)
-  HasTold name ask from (told.Missing generation) =
-      (missing : Missing) × (come : HasCome e server begun end from (body.Missing missing)) × HasAsked e server begun come.place name ask from
-      × (missing.ask ≡ ask) × (missing.generation ≡ generation)
-
   -- So a round over the other members of a segment's group stands, under one question, by what these told when they were asked for just this segment: each
   -- fragment in it is one of the segment.
   pub record RoundStands (w : Wanted) (stands : RoundState) : Type 0 where
     pub ask : ℕ
     pub replies : List Reply
-    pub come : AllByRecursion (λ (r : Reply). HasTold w.meta.name ask r.server r.told) replies
+    pub come : AllByRecursion (λ (r : Reply). HasTold e (nodes.Server server) begun end w.meta.name ask r.server r.told) replies
     pub fit : AllByRecursion (IsReplyOf w) replies
     pub is : state_of (record { n = w.n; parity = w.parity; servers = w.others; answers = replies }) ≡ stands
 
@@ -142,7 +96,7 @@ pub record IsLacking (e : Estate AnyNode) (server begun end : ℕ) (wanted : Lis
   pub known : node.maps.groups ≡ Some groups
   -- the lists in answer to its question that have come since the Begin, with the one that this event brings: of all other servers
   pub lists : List (ℕ × Listed)
-  pub come : AllByRecursion (λ (list : ℕ × Listed). HasCome e server begun (suc place) list.0 (body.Listed list.1)) lists
+  pub come : AllByRecursion (λ (list : ℕ × Listed). HasCome e (nodes.Server server) begun (suc place) (nodes.Server list.0) (body.Listed list.1)) lists
   pub asked : AllByRecursion (λ (list : ℕ × Listed). list.1.ask ≡ rebuilding.lists) lists
   pub all : (from : ℕ) → 1 ≤ from → from ≤ groups.servers → (from ≡ server → ⊥) → In from (map (λ (list : ℕ × Listed). list.0) lists)
   pub lacks : wanted ≡ wanted_in server groups (values_of (remove_names (barred node.shelf) (listed_by lists)))

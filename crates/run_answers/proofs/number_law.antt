@@ -1,3 +1,4 @@
+pub mod Tellings
 mod Evidence
 mod Running
 pub mod Awaiting

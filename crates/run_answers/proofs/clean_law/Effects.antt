@@ -18,7 +18,8 @@ use Rattle.xfs_base.specs.declared.segment.SegName.{SegName}
 use Rattle.run_answers.proofs.clean_law.Frames.{Acted, EffectSo, Frame}
 use Rattle.run_answers.proofs.clean_law.Standing as standing
 use Rattle.run_answers.proofs.number_law.Tallies as tallies
-use Rattle.headline.specs.Cleanings.{HasAsked, IsDropped}
+use Rattle.headline.specs.Cleanings.{IsDropped}
+use Rattle.headline.specs.Tellings.{HasFetched}
 
 -- ---- what is answered
 
@@ -81,7 +82,8 @@ module _ (f : Frame) (number cleaned : ℕ) where
 -- ---- what is dropped, and asked
 
 module _ (f : Frame) (whole : List Effect) (dropped : (name : SegName) → In (act.Dropped name) (acts_of nodes.Cleaner whole) → IsDropped f.e f.begun f.end name)
-    (asked : (server : ℕ) (m : Fetch) → In (Send (nodes.Server server) (body.Fetch m)) whole → HasAsked f.e f.begun f.end m.name m.ask server) where
+    (asked : (server : ℕ) (m : Fetch) → In (Send (nodes.Server server) (body.Fetch m)) whole
+    → HasFetched f.e nodes.Cleaner f.begun f.end m.name m.ask server) where
   act_acted : (a : Act) → In a (acts_of nodes.Cleaner whole) → Acted f (Does a)
   act_acted (act.Dropped name) among = dropped name among
   act_acted _ among = tt

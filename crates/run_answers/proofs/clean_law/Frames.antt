@@ -14,6 +14,7 @@ use Rattle.stripe_cleaner.specs.declared.input.In.{In as Input}
 use Rattle.stripe_cleaner.specs.declared.phase.Phase.{Phase}
 use Rattle.stripe_cleaner.specs.Job.{Turn}
 use Rattle.world_base.specs.declared.estate.Estate.{Estate}
+use Rattle.xfs_base.specs.declared.node.NodeId.TheVariants as nodes
 use Rattle.xfs_base.specs.declared.segment.SegName.{SegName}
 use Rattle.xfs_base.specs.declared.segment.SegRef.{SegRef}
 use Rattle.xfs_base.specs.Limits.{u32_end}
@@ -22,6 +23,7 @@ use Rattle.run_answers.proofs.clean_law.Standing as standing
 use Rattle.run_answers.proofs.clean_law.Turns as turns
 use Rattle.run_answers.proofs.number_law.Tallies.{Quiet}
 use Rattle.headline.specs.Cleanings as cleanings
+use Rattle.headline.specs.Tellings as tellings
 
 pub record Frame : Type 0 where
   pub e : Estate AnyNode
@@ -33,6 +35,10 @@ pub record Frame : Type 0 where
   pub item : ℕ
   pub room : last < u32_end
 
+-- by the events before a place
+abbrev pub until : Frame → ℕ → Frame
+until f place = record f { end = place }
+
 module _ (f : Frame) where
   abbrev pub Knows : GroupMapState → Type 0
   Knows groups = cleanings.KnowsGroups f.e f.begun f.end f.at_first groups
@@ -40,8 +46,8 @@ module _ (f : Frame) where
   abbrev pub IsDropped : SegName → Type 0
   IsDropped name = cleanings.IsDropped f.e f.begun f.end name
 
-  abbrev pub HasAsked : SegName → ℕ → ℕ → Type 0
-  HasAsked name ask server = cleanings.HasAsked f.e f.begun f.end name ask server
+  abbrev pub HasFetched : SegName → ℕ → ℕ → Type 0
+  HasFetched name ask server = tellings.HasFetched f.e nodes.Cleaner f.begun f.end name ask server
 
   abbrev pub IsLost : SegRef → Type 0
   IsLost segment = cleanings.IsLost f.e f.begun f.end f.last f.at_first segment

@@ -25,16 +25,19 @@ use Rattle.stripe_code.specs.declared.round.Told.TheVariants as answered
 use Rattle.stripe_code.specs.Round.{RoundSoFar, asks, has_answered, round_start, round_take, state_of, told_fits, unanswered}
 use Rattle.token_protocol.specs.Basics.{In}
 use Rattle.world_base.specs.declared.estate.Estate.{Estate}
-use Rattle.xfs_base.proofs.Alls.{all_append, all_weaker}
+use Rattle.xfs_base.proofs.Alls.{all_append}
 use Rattle.xfs_base.proofs.Booleans.{and_first, and_second, by_test, contrary}
 use Rattle.xfs_base.proofs.SegmentNames.{one_name}
+use Rattle.xfs_base.specs.declared.node.NodeId.TheVariants as nodes
 use Rattle.xfs_base.specs.declared.segment.SegRef.{SegRef}
 use Rattle.xfs_base.specs.Limits.{u32_end}
-use Rattle.run_answers.proofs.clean_law.Evidence.{AskedOf, FitsOf, Replied}
+use Rattle.run_answers.proofs.clean_law.Evidence.{FitsOf}
 use Rattle.run_answers.proofs.clean_law.Standing.{AllAsked, OnceMissed, ReadingSo, RoundSo, StageSo}
 use Rattle.run_answers.proofs.clean_law.Standing.OnceMissed.{Never, Once}
 use Rattle.run_answers.proofs.number_law.Awaiting.{in_heard}
-use Rattle.headline.specs.Cleanings.{HasAsked, HasTold, IsLost, IsToldOf, KnowsGroups, MissesUnder, round_with}
+use Rattle.run_answers.proofs.number_law.Tellings.{Replied}
+use Rattle.headline.specs.Cleanings.{IsLost, KnowsGroups, MissesUnder, round_with}
+use Rattle.headline.specs.Tellings.{HasFetched, HasTold, IsOfSegment}
 
 -- ---- a new question
 
@@ -65,6 +68,13 @@ unfolding round_take
 same_shape round server t =
     by_test (λ (r : RoundSoFar). record r { answers = [] } ≡ record round { answers = [] }) (has_answered round.answers server) round
     (record round { answers = round.answers ++ record { server = server; told = t } ∷ [] }) (λ _. refl) (λ _. refl)
+
+-- a server whose reply it awaits is one of the group's
+among_servers : (r : ReadingState) (group : Group) (server : ℕ) → record r.round { answers = [] } ≡ round_with group [] → asks r.round server ≡ true
+    → In server (servers_of group)
+among_servers r group server shape awaits =
+    in_heard server (servers_of group)
+    (subst (λ (xs : List ℕ). list_any (λ s. s == server) xs ≡ true) (ap (λ (x : RoundSoFar). x.servers) shape) awaits)
 
 module _ (e : Estate AnyNode) (begun end last : ℕ) (at_first : Option GroupMapState) (q : Questions) (segment : SegRef) where
   abbrev So : ReadingState → Type 0
@@ -119,15 +129,9 @@ module _ (e : Estate AnyNode) (begun end last : ℕ) (at_first : Option GroupMap
       missed = subst (λ (n : ℕ). n < length (missing_twice r.kept pairs)) parity_is (ltb-true round.parity (length (missing_twice r.kept pairs)) fact);
     }
 
-    asked_of : (replies : List Reply) → AllByRecursion (λ (x : Reply). In x.server (servers_of h.group)) replies
-        → AllByRecursion (AskedOf e begun end segment.name r.ask) replies
-    asked_of replies among =
-        all_weaker (λ (x : Reply). In x.server (servers_of h.group)) (AskedOf e begun end segment.name r.ask) (λ x there. asked x.server there) replies among
-
     missed_by : (pairs : List (ℕ × ℕ)) → state_of round ≡ Short pairs → MissesUnder e begun end segment.name h.group r.ask pairs
     missed_by pairs fact = record {
       replies = now.replies;
-      asked = asked_of now.replies now.among;
       come = now.come;
       fit = now.fit;
       among = now.among;
@@ -155,7 +159,20 @@ module _ (e : Estate AnyNode) (begun end last : ℕ) (at_first : Option GroupMap
     judged groups asking Waiting fact =
         subst (λ (stage : Stage). So (record r { round = round; stage = stage })) (sym asking) (turned r.kept Asking (older, old, once, now, asked))
 
-  module _ (r : ReadingState) (groups : GroupMapState) (own server : ℕ) (t : Told) (told : HasTold e begun end own server t) (h : So r) where
+  -- a server whose reply it awaits was asked
+  pub was_asked : (r : ReadingState) (server : ℕ) → So r → is_asking r.stage ≡ true → asks r.round server ≡ true
+      → HasFetched e nodes.Cleaner begun end segment.name r.ask server
+  was_asked r server h on awaits = by r.stage refl h.stage
+    where
+      by : (stage : Stage) → r.stage ≡ stage → StageSo e begun end last at_first h.group segment r stage
+          → HasFetched e nodes.Cleaner begun end segment.name r.ask server
+      by Asking same so = so.4 server (among_servers r h.group server h.shape awaits)
+      by Between same so = contrary (sym (ap is_asking same) ∙ on)
+      by Doubted same so = contrary (sym (ap is_asking same) ∙ on)
+      by Over same so = contrary (sym (ap is_asking same) ∙ on)
+
+  module _ (r : ReadingState) (groups : GroupMapState) (own server : ℕ) (t : Told)
+      (told : own ≡ r.ask → is_asking r.stage ≡ true → asks r.round server ≡ true → HasTold e nodes.Cleaner begun end segment.name r.ask server t) (h : So r) where
     abbrev fits : Bool
     fits = name_fits r.target t && told_fits r.round t
 
@@ -170,8 +187,8 @@ module _ (e : Estate AnyNode) (begun end last : ℕ) (at_first : Option GroupMap
         judged r h so.0 so.1 so.2 (round_take r.round server t)
         (record {
           replies = so.3.replies ++ record { server = server; told = t } ∷ [];
-          come = all_append (Replied e begun end r.ask) so.3.replies (record { server = server; told = t } ∷ []) so.3.come
-              (subst (λ (n : ℕ). HasTold e begun end n server t) (eqb-true own r.ask ours) told, tt);
+          come = all_append (Replied e nodes.Cleaner begun end segment.name r.ask) so.3.replies (record { server = server; told = t } ∷ []) so.3.come
+              (told (eqb-true own r.ask ours) (is_on fact) awaited, tt);
           fit = all_append (FitsOf segment.name) so.3.replies (record { server = server; told = t } ∷ []) so.3.fit (fitting t named, tt);
           among = all_append (λ (x : Reply). In x.server (servers_of h.group)) so.3.replies (record { server = server; told = t } ∷ []) so.3.among (there, tt);
           is = ap (λ (x : RoundSoFar). round_take x server t) so.3.is ∙ sym (with_more h.group so.3.replies server t);
@@ -189,15 +206,15 @@ module _ (e : Estate AnyNode) (begun end last : ℕ) (at_first : Option GroupMap
             and_first (name_fits r.target t) (told_fits r.round t)
             (and_second (is_asking r.stage && (own == r.ask) && asks r.round server) fits fact)
 
-        fitting : (x : Told) → name_fits r.target x ≡ true → IsToldOf segment.name x
+        fitting : (x : Told) → name_fits r.target x ≡ true → IsOfSegment segment.name x
         fitting (answered.Held f) fact = one_name f.meta.name r.target.seg.name fact ∙ ap (λ (seg : SegRef). seg.name) h.target
         fitting (answered.Missing generation) fact = tt
 
+        awaited : asks r.round server ≡ true
+        awaited = and_second (is_asking r.stage && (own == r.ask)) (asks r.round server) heard
+
         there : In server (servers_of h.group)
-        there =
-            in_heard server (servers_of h.group)
-            (subst (λ (xs : List ℕ). list_any (λ s. s == server) xs ≡ true) (ap (λ (x : RoundSoFar). x.servers) h.shape)
-            (and_second (is_asking r.stage && (own == r.ask)) (asks r.round server) heard))
+        there = among_servers r h.group server h.shape awaited
     taken fact Between same so = contrary (sym (ap is_asking same) ∙ is_on fact)
     taken fact Doubted same so = contrary (sym (ap is_asking same) ∙ is_on fact)
     taken fact Over same so = contrary (sym (ap is_asking same) ∙ is_on fact)
@@ -221,7 +238,7 @@ all_unanswered P (x ∷ servers) all server (inr among) = all_unanswered P serve
 module _ (e : Estate AnyNode) (begun end last : ℕ) (at_first : Option GroupMapState) (q : Questions) (segment : SegRef) where
   -- those that it is to ask now are asked
   abbrev pub AsksNow : ReadingState → Type 0
-  AsksNow r = AllByRecursion (HasAsked e begun end segment.name r.ask) (reading_unanswered r)
+  AsksNow r = AllByRecursion (HasFetched e nodes.Cleaner begun end segment.name r.ask) (reading_unanswered r)
 
   abbrev pub AsksIn : Step → Type 0
   AsksIn d = d.next ≡ next.Ask → AsksNow d.state
@@ -274,8 +291,8 @@ module _ (e : Estate AnyNode) (begun end last : ℕ) (at_first : Option GroupMap
               omega (arith, a, b),
               so,
               record { replies = []; come = tt; fit = tt; among = tt; is = h.shape },
-              all_unanswered (HasAsked e begun end segment.name (next_ask q)) (servers_of h.group)
-                  (subst (λ (x : RoundSoFar). AllByRecursion (HasAsked e begun end segment.name (next_ask q)) (unanswered x)) h.shape (asks refl)),
+              all_unanswered (HasFetched e nodes.Cleaner begun end segment.name (next_ask q)) (servers_of h.group)
+                  (subst (λ (x : RoundSoFar). AllByRecursion (HasFetched e nodes.Cleaner begun end segment.name (next_ask q)) (unanswered x)) h.shape (asks refl)),
             );
           };
           lost = λ fact. absurd (no_loss fact);
@@ -327,7 +344,7 @@ module _ (e : Estate AnyNode) (begun end last : ℕ) (at_first : Option GroupMap
       next_newer last q low room,
       Never refl,
       record { replies = []; come = tt; fit = tt; among = tt; is = refl },
-      all_unanswered (HasAsked e begun end segment.name (next_ask q)) (servers_of group) asks,
+      all_unanswered (HasFetched e nodes.Cleaner begun end segment.name (next_ask q)) (servers_of group) asks,
     );
   }
 

@@ -45,11 +45,11 @@ use Rattle.headline.specs.Checkpoints.{sent_in}
 use Rattle.headline.specs.Dues.{NothingComes, TakesTurn}
 use Rattle.headline.specs.Moments.{acts_in, moment, node_named}
 use Rattle.run_answers.proofs.clean_law.Effects.{acts_due, all_acted, counted_item}
-use Rattle.run_answers.proofs.clean_law.Frames.{Acted, At, Frame, JobSo}
+use Rattle.run_answers.proofs.clean_law.Frames.{Acted, At, Frame, JobSo, until}
 use Rattle.run_answers.proofs.clean_law.Serving.{begins_go}
 use Rattle.run_answers.proofs.clean_law.Standing as standing
 use Rattle.run_answers.proofs.clean_law.Standing.{job_later}
-use Rattle.run_answers.proofs.clean_law.Sweeping.{NewSo, PhaseAt, PhaseOf, ServesSo, Sweeps, begin_keeps, event_sweeps}
+use Rattle.run_answers.proofs.clean_law.Sweeping.{Comes, NewSo, PhaseAt, PhaseOf, ServesSo, Sweeps, begin_keeps, event_sweeps}
 use Rattle.run_answers.proofs.due_law.Runs.{turn, turns_or_ends}
 use Rattle.run_answers.proofs.number_law.Acting.{acting, event_begins, event_delivers, node_behind}
 use Rattle.run_answers.proofs.number_law.Cleanings.{Uncounted, begins_asking, begins_uncounted}
@@ -60,8 +60,9 @@ use Rattle.run_answers.proofs.once_law.Runs.{node_known, runs_answer_once}
 use Rattle.run_answers.proofs.repeat_law.Among.{in_map}
 use Rattle.run_answers.proofs.standing_law.Moments.{each_moment}
 use Rattle.run_answers.proofs.wait_law.Again.{sent}
-use Rattle.headline.specs.Cleanings.{BeginsCleaning, HasAsked, HasCome, IsDropped, KnowsGroups, TakesWhatIsDue}
+use Rattle.headline.specs.Cleanings.{BeginsCleaning, IsDropped, KnowsGroups, TakesWhatIsDue}
 use Rattle.headline.specs.Cleanings.KnowsGroups.{AtFirst}
+use Rattle.headline.specs.Tellings.{HasFetched}
 use Rattle.run_answers.specs.clean_law.Runs.{EachRunsCleaningsTakeWhatIsDue}
 
 first_known : (e : Estate AnyNode) (begun end : ℕ) (o : Option GroupMapState) → IfSome o (KnowsGroups e begun end o)
@@ -221,7 +222,8 @@ module _ (e : Estate AnyNode) where
             acted = subst (λ (xs : List Act). In (act.Dropped name) xs) (sym took.acts) among;
           }
 
-      asked_now : (server : ℕ) (m : Fetch) → In (Send (nodes.Server server) (body.Fetch m)) outs → HasAsked e w.begun (suc count) m.name m.ask server
+      asked_now : (server : ℕ) (m : Fetch) → In (Send (nodes.Server server) (body.Fetch m)) outs
+          → HasFetched e nodes.Cleaner w.begun (suc count) m.name m.ask server
       asked_now server m among =
           let low = w.since in
           record {
@@ -238,19 +240,26 @@ module _ (e : Estate AnyNode) where
             says = refl;
           }
 
-      comes : (packet : Packet) → what_of event ≡ whats.Deliver packet → HasCome e w.begun (suc count) packet.from packet.body
+      stood : PhaseAt (until f count) c.phase
+      stood =
+          subst (PhaseAt (until f count)) (sym same)
+          (subst (JobSo (until f count) s.lasting.items.unanswered s.lasting.questions s.maps.groups) (sym its_job) w.so)
+
+      comes : Comes f c (what_of event)
       comes packet fact =
-          let low = w.since in
-          record {
-            place = count;
-            since = low;
-            before = omega arith;
-            packet = packet;
-            happens = happens ∙ ap Some (event_delivers event packet fact);
-            to_it = ap node_of (sym (event_delivers event packet fact)) ∙ named;
-            from_it = refl;
-            says = refl;
-          }
+          let low = w.since in (
+            record {
+              place = count;
+              since = low;
+              before = omega arith;
+              packet = packet;
+              happens = happens ∙ ap Some (event_delivers event packet fact);
+              to_it = ap node_of (sym (event_delivers event packet fact)) ∙ named;
+              from_it = refl;
+              says = refl;
+            },
+            stood,
+          )
 
       sweeps : Working → Sweeps f (takes c.peers c.phase (what_of event))
       sweeps other =

@@ -1,5 +1,5 @@
 -- What a cleaner that serves does for its job and with its log, whatever comes to it: what it takes is what is due.
-use Rattle.std.proofs.Common.{◌≡◌, ◌<◌, ◌==◌, ◌&&◌, ℕ, Bool, true, List, [], ◌∷◌, Option, None, Some, nat_lt, refl, ap, subst}
+use Rattle.std.proofs.Common.{◌≡◌, ◌<◌, ◌==◌, ◌&&◌, ℕ, Bool, true, List, [], ◌∷◌, Option, None, Some, nat_lt, refl, ap, subst, ◌∙◌}
 use Rattle.std.proofs.lemmas.Bool.{eqb-true}
 use Rattle.std.specs.List.{range_with_len}
 use Rattle.std.specs.Prelude.{IfSome}
@@ -54,14 +54,14 @@ use Rattle.xfs_base.specs.declared.segment.End.{End}
 use Rattle.xfs_base.specs.declared.segment.SegRef.{SegRef}
 use Rattle.xfs_base.specs.Limits.{u32_end}
 use Rattle.xfs_base.specs.Steps.{saying, steps, still}
-use Rattle.run_answers.proofs.clean_law.Frames.{At, Frame, Goes, HandSo, JobSo, Knows, first_goes, from_goes, if_goes, plainly, rests, steps_go, then_goes}
+use Rattle.run_answers.proofs.clean_law.Frames.{At, Frame, Goes, HandSo, JobSo, Knows, first_goes, from_goes, if_goes, plainly, rests, steps_go, then_goes, until}
 use Rattle.run_answers.proofs.clean_law.Readings.{next_least}
 use Rattle.run_answers.proofs.clean_law.Standing.{HandOf, InHand}
 use Rattle.run_answers.proofs.clean_law.Telling.{tells_go}
 use Rattle.run_answers.proofs.clean_law.Working.{cleans_go, questions_later, with_hand}
 use Rattle.run_answers.proofs.number_law.Emptying.{pushes_quiet}
-use Rattle.headline.specs.Cleanings.{HasCome}
 use Rattle.headline.specs.Cleanings.KnowsGroups.{ByNews, ByWelcome}
+use Rattle.headline.specs.Tellings.{HasCome}
 
 server_is : (name : NodeId) (server : ℕ) → server_in name ≡ Some server → name ≡ node.Server server
 server_is (node.Server n) server fact = cc
@@ -76,7 +76,7 @@ out_is (Some awaited) ask fact = ap Some (eqb-true awaited ask fact)
 
 module _ (f : Frame) where
   abbrev Came : NodeId → Body → Type 0
-  Came from said = HasCome f.e f.begun f.end from said
+  Came from said = HasCome f.e node.Cleaner f.begun f.end from said
 
   -- ---- what comes for it
 
@@ -309,47 +309,61 @@ module _ (f : Frame) where
 
   -- ---- packets and time
 
-  from_server : (from : NodeId) (said : Body) → Came from said → (n : ℕ) → server_in from ≡ Some n → Came (node.Server n) said
-  from_server from said come n same = subst (λ (name : NodeId). Came name said) (server_is from n same) come
+  abbrev from_server : (from : NodeId) (said : Body) → Came from said → (n : ℕ) → server_in from ≡ Some n → Came (node.Server n) said
+  from_server from said come n same = record {
+    place = come.place;
+    since = come.since;
+    before = come.before;
+    packet = come.packet;
+    happens = come.happens;
+    to_it = come.to_it;
+    from_it = come.from_it ∙ server_is from n same;
+    says = come.says;
+  }
 
-  found_goes : (s : Emptying) → s.lasting.questions.last < u32_end → (server : Option ℕ) (m : Found)
-      → ((n : ℕ) → server ≡ Some n → Came (node.Server n) (body.Fragment m)) → Goes f s (jobs.on_told s server m.ask (answered.Held m.fragment))
+  found_goes : (s : Emptying) → s.lasting.questions.last < u32_end → (from : NodeId) (server : Option ℕ) → server_in from ≡ server → (m : Found)
+      → (come : Came from (body.Fragment m)) → At (until f come.place) s → Goes f s (jobs.on_told s server m.ask (answered.Held m.fragment))
   unfolding jobs.on_told
-  found_goes s room None m come = rests f s
-  found_goes s room (Some n) m come = tells_go f m.ask n (answered.Held m.fragment) (m, come n refl, refl, refl) s room
+  found_goes s room from None sender m come was = rests f s
+  found_goes s room from (Some n) sender m come was =
+      tells_go f m.ask n (answered.Held m.fragment) come.place
+      (λ name asked. (m, from_server from (body.Fragment m) come n sender, asked, refl, refl)) s room was
 
-  missing_goes : (s : Emptying) → s.lasting.questions.last < u32_end → (server : Option ℕ) (m : Missing)
-      → ((n : ℕ) → server ≡ Some n → Came (node.Server n) (body.Missing m)) → Goes f s (jobs.on_told s server m.ask (answered.Missing m.generation))
+  missing_goes : (s : Emptying) → s.lasting.questions.last < u32_end → (from : NodeId) (server : Option ℕ) → server_in from ≡ server → (m : Missing)
+      → (come : Came from (body.Missing m)) → At (until f come.place) s → Goes f s (jobs.on_told s server m.ask (answered.Missing m.generation))
   unfolding jobs.on_told
-  missing_goes s room None m come = rests f s
-  missing_goes s room (Some n) m come = tells_go f m.ask n (answered.Missing m.generation) (m, come n refl, refl, refl) s room
+  missing_goes s room from None sender m come was = rests f s
+  missing_goes s room from (Some n) sender m come was =
+      tells_go f m.ask n (answered.Missing m.generation) come.place
+      (λ name asked. (m, from_server from (body.Missing m) come n sender, asked, refl, refl)) s room was
 
-  body_goes : (s : Emptying) → s.lasting.questions.last < u32_end → (from : NodeId) (b : Body) → Came from b → Goes f s (emptying.on_body s from b)
-  body_goes s room from (body.MapNews m) come =
+  body_goes : (s : Emptying) → s.lasting.questions.last < u32_end → (from : NodeId) (b : Body) → (come : Came from b) → At (until f come.place) s
+      → Goes f s (emptying.on_body s from b)
+  body_goes s room from (body.MapNews m) come was =
       if_goes f (fits s.maps m) s (emptying.take_news s m) (λ _. take_news_goes s m (ByNews from m come refl))
-  body_goes s room from (body.Welcome m) come = welcome_goes from m come s
-  body_goes s room from (body.Poll m) come = poll_goes s from m
-  body_goes s room from (body.DeltaAck m) come = ack_goes s m
-  body_goes s room from (body.Stored m) come = writes_go s (log_in.Acked m.name m.index m.generation)
-  body_goes s room from (body.Listed m) come = listed_goes s (server_in from) m (from_server from (body.Listed m) come)
-  body_goes s room from (body.Usage m) come = usages_go s m
-  body_goes s room from (body.Fragment m) come = found_goes s room (server_in from) m (from_server from (body.Fragment m) come)
-  body_goes s room from (body.Missing m) come = missing_goes s room (server_in from) m (from_server from (body.Missing m) come)
-  body_goes s room from (body.Live m) come = live_goes s m
-  body_goes s room from (body.Dead m) come = dead_goes s m
-  body_goes s room from (body.Deleted m) come = deleted_goes s (server_in from) m
-  body_goes s room from _ come = rests f s
+  body_goes s room from (body.Welcome m) come was = welcome_goes from m come s
+  body_goes s room from (body.Poll m) come was = poll_goes s from m
+  body_goes s room from (body.DeltaAck m) come was = ack_goes s m
+  body_goes s room from (body.Stored m) come was = writes_go s (log_in.Acked m.name m.index m.generation)
+  body_goes s room from (body.Listed m) come was = listed_goes s (server_in from) m (from_server from (body.Listed m) come)
+  body_goes s room from (body.Usage m) come was = usages_go s m
+  body_goes s room from (body.Fragment m) come was = found_goes s room from (server_in from) refl m come was
+  body_goes s room from (body.Missing m) come was = missing_goes s room from (server_in from) refl m come was
+  body_goes s room from (body.Live m) come was = live_goes s m
+  body_goes s room from (body.Dead m) come was = dead_goes s m
+  body_goes s room from (body.Deleted m) come was = deleted_goes s (server_in from) m
+  body_goes s room from _ come was = rests f s
 
   drawn_so : (u : Option ℕ) (q : Questions) (groups : Option GroupMapState) (o : Option Job) → JobSo f u q groups o → JobSo f u (draw q) groups o
   drawn_so u q groups None h = tt
   drawn_so u q groups (Some job) h = questions_later f u q (draw q) groups job (next_least q) h
 
-  pub packet_goes : (s : Emptying) → s.lasting.questions.last < u32_end → (packet : Packet) → Came packet.from packet.body
-      → Goes f s (emptying.on_packet s packet)
+  pub packet_goes : (s : Emptying) → s.lasting.questions.last < u32_end → (packet : Packet) → (come : Came packet.from packet.body)
+      → At (until f come.place) s → Goes f s (emptying.on_packet s packet)
   unfolding emptying.on_packet
-  packet_goes s room packet come =
+  packet_goes s room packet come was =
       by_test (Goes f s) (names_known_groups s.maps packet.body) (emptying.on_body s packet.from packet.body) (emptying.ask_for_maps s)
-      (λ _. body_goes s room packet.from packet.body come)
+      (λ _. body_goes s room packet.from packet.body come was)
       (λ _. plainly f s (emptying.ask_for_maps s) (λ h. drawn_so s.lasting.items.unanswered s.lasting.questions s.maps.groups s.job h) (tt, tt))
 
   pub tick_goes : (s : Emptying) → Goes f s (emptying.on_tick s)

@@ -39,10 +39,12 @@ use Rattle.xfs_base.specs.declared.segment.SegName.{SegName}
 use Rattle.xfs_base.specs.declared.segment.SegRef.{SegRef}
 use Rattle.xfs_base.specs.Limits.{u32_end}
 use Rattle.xfs_base.specs.Steps.{saying, steps, still}
-use Rattle.run_answers.proofs.clean_law.Evidence.{FitsOf, ListCame, Replied, asked_later, candidates_later, dropped_later, emptied_later, knows_later, lists_later, lost_later, misses_later, replies_later, taken_later, welcome_later}
+use Rattle.run_answers.proofs.clean_law.Evidence.{FitsOf, candidates_later, dropped_later, emptied_later, knows_later, lost_later, misses_later, taken_later}
 use Rattle.run_answers.proofs.number_law.Tallies.{IsNoAnswer, IsNoCount, Quiet, act_silent}
-use Rattle.headline.specs.Cleanings.{AreCandidates, AreEmptied, AreTaken, HasAsked, HasCome, IsDropped, IsLost, KnowsGroups, MissesUnder, candidates_by, round_with}
+use Rattle.run_answers.proofs.number_law.Tellings.{ListCame, Replied, come_later, fetched_later, lists_later, replies_later}
+use Rattle.headline.specs.Cleanings.{AreCandidates, AreEmptied, AreTaken, IsDropped, IsLost, KnowsGroups, MissesUnder, candidates_by, round_with}
 use Rattle.headline.specs.Cleanings.AreEmptied.{OneDropped, OneLost}
+use Rattle.headline.specs.Tellings.{HasCome, HasFetched}
 
 -- the segment in hand is this one, if there is one
 abbrev pub HandOf : Option Hand → SegRef → Type 0
@@ -59,7 +61,7 @@ module _ (e : Estate AnyNode) (begun end last : ℕ) (at_first : Option GroupMap
   -- the round that is under way
   pub record RoundSo (name : SegName) (group : Group) (ask : ℕ) (round : RoundSoFar) : Type 0 where
     pub replies : List Reply
-    pub come : AllByRecursion (Replied e begun end ask) replies
+    pub come : AllByRecursion (Replied e nodes.Cleaner begun end name ask) replies
     pub fit : AllByRecursion (FitsOf name) replies
     pub among : AllByRecursion (λ (r : Reply). In r.server (servers_of group)) replies
     pub is : round ≡ round_with group replies
@@ -71,7 +73,7 @@ module _ (e : Estate AnyNode) (begun end last : ℕ) (at_first : Option GroupMap
 
   -- the group's servers were asked for the segment under the question
   abbrev pub AllAsked : SegName → Group → ℕ → Type 0
-  AllAsked name group ask = (server : ℕ) → In server (servers_of group) → HasAsked e begun end name ask server
+  AllAsked name group ask = (server : ℕ) → In server (servers_of group) → HasFetched e nodes.Cleaner begun end name ask server
 
   abbrev pub StageSo : Group → SegRef → ReadingState → Stage → Type 0
   StageSo group segment r Asking =
@@ -102,7 +104,7 @@ module _ (e : Estate AnyNode) (begun end last : ℕ) (at_first : Option GroupMap
   pub record Welcomed : Type 0 where
     pub from : NodeId
     pub welcome : Welcome
-    pub welcomed : HasCome e begun end from (body.Welcome welcome)
+    pub welcomed : HasCome e nodes.Cleaner begun end from (body.Welcome welcome)
     pub answers : last < welcome.ask
     pub groups : GroupMapState
     pub known : KnowsGroups e begun end at_first groups
@@ -111,7 +113,7 @@ module _ (e : Estate AnyNode) (begun end last : ℕ) (at_first : Option GroupMap
     pub welcomed : Welcomed
     pub slots : l.slots ≡ welcomed.welcome.news.slots
     pub lists : List (ℕ × Listed)
-    pub come : AllByRecursion (ListCame e begun end) lists
+    pub come : AllByRecursion (ListCame e nodes.Cleaner begun end) lists
     pub under : AllByRecursion (λ (list : ℕ × Listed). asked ≡ Some list.1.ask) lists
     pub all : (server : ℕ) → In server (all_servers welcomed.groups.servers) → In server l.awaited ⊎ In server (map (λ (list : ℕ × Listed). list.0) lists)
     pub are : l.candidates ≡ candidates_by welcomed.welcome.news.slots lists
@@ -214,7 +216,7 @@ module _ (e : Estate AnyNode) (begun end last : ℕ) (at_first : Option GroupMap
 
       -- and what it asks a server for it has asked in it
       abbrev pub AskSo : ℕ → Body → Type 0
-      AskSo server (body.Fetch m) = HasAsked e begun end m.name m.ask server
+      AskSo server (body.Fetch m) = HasFetched e nodes.Cleaner begun end m.name m.ask server
       AskSo server _ = Unit {0}
 
       abbrev pub SentSo : NodeId → Body → Type 0
@@ -323,8 +325,14 @@ module _ (e : Estate AnyNode) (begun end last : ℕ) (at_first : Option GroupMap
     h.0,
     h.1,
     once_later segment.name group h.0 r.kept h.2,
-    record { replies = h.3.replies; come = replies_later e begun end r.ask h.3.replies h.3.come; fit = h.3.fit; among = h.3.among; is = h.3.is },
-    λ server among. asked_later e begun end segment.name r.ask server (h.4 server among),
+    record {
+      replies = h.3.replies;
+      come = replies_later e nodes.Cleaner begun end segment.name r.ask h.3.replies h.3.come;
+      fit = h.3.fit;
+      among = h.3.among;
+      is = h.3.is;
+    },
+    λ server among. fetched_later e nodes.Cleaner begun end segment.name r.ask server (h.4 server among),
   )
   stage_later group segment r Between h = once_later segment.name group r.ask r.kept h
   stage_later group segment r Doubted h = lost_later e begun end last at_first segment h
@@ -354,7 +362,7 @@ module _ (e : Estate AnyNode) (begun end last : ℕ) (at_first : Option GroupMap
   welcomed_later h = record {
     from = h.from;
     welcome = h.welcome;
-    welcomed = welcome_later e begun end h.from (body.Welcome h.welcome) h.welcomed;
+    welcomed = come_later e nodes.Cleaner begun end h.from (body.Welcome h.welcome) h.welcomed;
     answers = h.answers;
     groups = h.groups;
     known = knows_later e begun end at_first h.groups h.known;
@@ -366,7 +374,7 @@ module _ (e : Estate AnyNode) (begun end last : ℕ) (at_first : Option GroupMap
     welcomed = welcomed_later h.welcomed;
     slots = h.slots;
     lists = h.lists;
-    come = lists_later e begun end h.lists h.come;
+    come = lists_later e nodes.Cleaner begun end h.lists h.come;
     under = h.under;
     all = h.all;
     are = h.are;

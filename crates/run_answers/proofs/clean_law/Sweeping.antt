@@ -34,14 +34,15 @@ use Rattle.wire_msg.specs.declared.packet.Do.TheVariants as whats
 use Rattle.wire_msg.specs.declared.packet.Packet.{Packet}
 use Rattle.xfs_base.proofs.Alls.{all_append, all_weaker}
 use Rattle.xfs_base.proofs.Booleans.{and_first, and_second, by_test}
+use Rattle.xfs_base.specs.declared.node.NodeId.TheVariants as nodes
 use Rattle.xfs_base.specs.Limits.{counter_room, u32_end}
 use Rattle.xfs_base.specs.Steps.{still}
-use Rattle.run_answers.proofs.clean_law.Frames.{Acted, At, EffectSo, Frame, Leads, quiet_so}
+use Rattle.run_answers.proofs.clean_law.Frames.{Acted, At, EffectSo, Frame, Leads, quiet_so, until}
 use Rattle.run_answers.proofs.clean_law.Serving.{packet_goes, tick_goes}
 use Rattle.run_answers.proofs.number_law.Sweeping.{PhaseWith, done_quiet, down_begins, opened_quiet, opening_begins}
 use Rattle.run_answers.proofs.number_law.Tallies.{Quiet}
 use Rattle.run_answers.proofs.once_law.Items.{begun_open, begun_works}
-use Rattle.headline.specs.Cleanings.{HasCome}
+use Rattle.headline.specs.Tellings.{HasCome}
 
 -- ---- a counter that is far from its end
 
@@ -62,14 +63,15 @@ module _ (f : Frame) where
   PhaseAt (Opening l o) = Unit {0}
   PhaseAt (Serving s) = At f s
 
+module _ (f : Frame) where
   pub record Sweeps (w : Went_to) : Type 0 where
-    pub state : PhaseAt w.state
+    pub state : PhaseAt f w.state
     pub outs : AllByRecursion (EffectSo f) w.outs
 
-  none_swept : (p : Phase) → PhaseAt p → Sweeps (still p)
+  none_swept : (p : Phase) → PhaseAt f p → Sweeps (still p)
   none_swept p h = record { state = h; outs = tt }
 
-  opened_at : (l : Lasting) (p : Progress) → PhaseAt (after_opening l p).state
+  opened_at : (l : Lasting) (p : Progress) → PhaseAt f (after_opening l p).state
   unfolding after_opening
   opened_at l (progress.Opening o) = tt
   opened_at l (progress.Opened o) = tt
@@ -86,16 +88,16 @@ module _ (f : Frame) where
   serving_swept : (d : Done) → Leads f d → Sweeps (serves_on d)
   serving_swept d h = record { state = h.state; outs = h.outs }
 
-  heard_swept : (p : Phase) (packet : Packet) → phase_has_room p ≡ true → HasCome f.e f.begun f.end packet.from packet.body → PhaseAt p
-      → AllByRecursion (Acted f) (cleaner_hear p packet).outs → Sweeps (cleaner_hear p packet)
+  heard_swept : (p : Phase) (packet : Packet) → phase_has_room p ≡ true → (come : HasCome f.e nodes.Cleaner f.begun f.end packet.from packet.body)
+      → PhaseAt (until f come.place) p → PhaseAt f p → AllByRecursion (Acted f) (cleaner_hear p packet).outs → Sweeps (cleaner_hear p packet)
   unfolding cleaner_hear
-  heard_swept (Down l) packet room come h acted = none_swept (Down l) h
-  heard_swept (Opening l o) packet room come h acted =
+  heard_swept (Down l) packet room come was h acted = none_swept (Down l) h
+  heard_swept (Opening l o) packet room come was h acted =
       opened_swept l o.known.owner (opening.opening_take o l.questions packet) (behaving.packet_so o l.questions packet).does
-  heard_swept (Serving s) packet room come h acted =
-      serving_swept (on_packet s packet) (packet_goes f s (serving_room s room) packet come h acted)
+  heard_swept (Serving s) packet room come was h acted =
+      serving_swept (on_packet s packet) (packet_goes f s (serving_room s room) packet come was h acted)
 
-  time_swept : (p : Phase) → PhaseAt p → AllByRecursion (Acted f) (on_time p).outs → Sweeps (on_time p)
+  time_swept : (p : Phase) → PhaseAt f p → AllByRecursion (Acted f) (on_time p).outs → Sweeps (on_time p)
   unfolding on_time
   time_swept (Down l) h acted = none_swept (Down l) h
   time_swept (Opening l o) h acted = opened_swept l o.known.owner (opening.on_tick o l.questions) (behaving.tick_so o l.questions).does
@@ -105,18 +107,22 @@ module _ (f : Frame) where
   abbrev pub SweptBy : Went_to → Type 0
   SweptBy w = AllByRecursion (Acted f) w.outs → Sweeps w
 
-  event_swept : (c : Cleaner) (what : Do) → (what ≡ whats.Begin → ⊥)
-      → ((packet : Packet) → what ≡ whats.Deliver packet → HasCome f.e f.begun f.end packet.from packet.body) → phase_has_room c.phase ≡ true
-      → PhaseAt c.phase → SweptBy (happens c.peers c.phase what)
+  -- a packet that it brings comes in it, and before it the cleaner stood so
+  abbrev pub Comes : Cleaner → Do → Type 0
+  Comes c what =
+      (packet : Packet) → what ≡ whats.Deliver packet
+      → (come : HasCome f.e nodes.Cleaner f.begun f.end packet.from packet.body) × PhaseAt (until f come.place) c.phase
+
+  event_swept : (c : Cleaner) (what : Do) → (what ≡ whats.Begin → ⊥) → Comes c what → phase_has_room c.phase ≡ true → PhaseAt f c.phase
+      → SweptBy (happens c.peers c.phase what)
   unfolding on_deliver
   event_swept c whats.Begin other come room h = absurd (other refl)
   event_swept c (whats.Deliver packet) other come room h =
       by_test SweptBy (is_well_formed c.peers packet) (cleaner_hear c.phase packet) (still c.phase)
-      (λ _ acted. heard_swept c.phase packet room (come packet refl) h acted) (λ _ acted. none_swept c.phase h)
+      (λ _ acted. heard_swept c.phase packet room (come packet refl).0 (come packet refl).1 h acted) (λ _ acted. none_swept c.phase h)
   event_swept c whats.Tick other come room h = λ acted. time_swept c.phase h acted
 
-  pub event_sweeps : (c : Cleaner) (what : Do) → (what ≡ whats.Begin → ⊥)
-      → ((packet : Packet) → what ≡ whats.Deliver packet → HasCome f.e f.begun f.end packet.from packet.body) → PhaseAt c.phase
+  pub event_sweeps : (c : Cleaner) (what : Do) → (what ≡ whats.Begin → ⊥) → Comes c what → PhaseAt f c.phase
       → SweptBy (takes c.peers c.phase what)
   event_sweeps c what other come h =
       by_test SweptBy (phase_has_room c.phase) (happens c.peers c.phase what) (still c.phase) (λ room. event_swept c what other come room h)

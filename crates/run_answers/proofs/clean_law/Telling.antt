@@ -1,5 +1,5 @@
 -- What becomes of the segment in hand as a server tells of its fragment: it is read, or read again, or lost as two rounds missed it.
-use Rattle.std.proofs.Common.{◌≡◌, ◌<◌, ◌≤◌, ℕ, Option, None, Some, refl, subst, ◌∙◌}
+use Rattle.std.proofs.Common.{◌≡◌, ◌<◌, ◌≤◌, ℕ, true, Option, None, Some, refl, sym, subst, ◌∙◌}
 use Rattle.std.specs.List.{AllByRecursion}
 use Rattle.std.specs.Prelude.{IfSome}
 use Rattle.cleaner_job.specs.declared.hand.Hand.{Hand}
@@ -15,19 +15,22 @@ use Rattle.node_base.specs.declared.questions.Questions.{Questions}
 use Rattle.segment_format.specs.declared.segment.Segment.{Segment}
 use Rattle.segment_reading.specs.declared.reading.Next.{Next}
 use Rattle.segment_reading.specs.declared.reading.Next.TheVariants as next
-use Rattle.segment_reading.specs.Reading.{ReadingState, Step, on_confirmed, reading_unanswered}
+use Rattle.segment_reading.specs.Reading.{ReadingState, Step, is_asking, on_confirmed, reading_unanswered}
 use Rattle.stripe_cleaner.specs.declared.input.In.{In as Input}
 use Rattle.stripe_cleaner.specs.declared.input.In.TheVariants as input
 use Rattle.stripe_code.specs.declared.round.Told.{Told as Answered}
+use Rattle.stripe_code.specs.Round.{asks}
+use Rattle.xfs_base.specs.declared.node.NodeId.TheVariants as nodes
+use Rattle.xfs_base.specs.declared.segment.SegName.{SegName}
 use Rattle.xfs_base.specs.declared.segment.SegRef.{SegRef}
 use Rattle.xfs_base.specs.Limits.{u32_end}
 use Rattle.xfs_base.specs.Steps.{still}
-use Rattle.run_answers.proofs.clean_law.Frames.{Acted, Frame, Goes, HandSo, InputSo, IsLost, JobSo, ReadingSo, WorksSo, from_goes, plainly, rests}
-use Rattle.run_answers.proofs.clean_law.Readings.{IsNoLoss, confirmed_so, next_least, tells_no_loss, told_so}
+use Rattle.run_answers.proofs.clean_law.Frames.{Acted, At, Frame, Goes, HandSo, InputSo, IsLost, JobSo, ReadingSo, WorksSo, from_goes, plainly, rests, until}
+use Rattle.run_answers.proofs.clean_law.Readings.{IsNoLoss, confirmed_so, next_least, tells_no_loss, told_so, was_asked}
 use Rattle.run_answers.proofs.clean_law.Standing.{HandOf, InHand, hand_newer}
 use Rattle.run_answers.proofs.clean_law.Working.{asks_acted, cleans_go, in_hand, job_now, questions_later, with_hand}
 use Rattle.run_answers.proofs.number_law.Jobs.{fetches_quiet}
-use Rattle.headline.specs.Cleanings.{HasTold}
+use Rattle.headline.specs.Tellings.{HasFetched, HasTold}
 
 module _ (f : Frame) where
   abbrev pub InputIn : Option Job → Input → Type 0
@@ -124,44 +127,60 @@ module _ (f : Frame) where
   after_goes s job hand room (next.Read segment) none = ends_go (in_hand f s job (Some hand)) (Some segment) tt
   after_goes s job hand room next.Lost none = absurd none
 
-  module _ (ask server : ℕ) (t : Answered) (told : HasTold f.e f.begun f.end ask server t) where
+  module _ (ask server : ℕ) (t : Answered) (place : ℕ)
+      (told : (name : SegName) → HasFetched f.e nodes.Cleaner f.begun place name ask server → HasTold f.e nodes.Cleaner f.begun f.end name ask server t) where
     record HearsSo (hand : Hand) (q : Questions) (x : Heard Hand) : Type 0 where
       so : HandSo f q x.state
       same : x.state.seg ≡ hand.seg
       none : IsNoLoss x.next
 
-    hears : (hand : Hand) (q : Questions) (groups : GroupMapState) → HandSo f q hand → (r : Option ReadingState) → IfSome r (ReadingSo f q hand.seg)
-        → HearsSo hand q (hears_by hand r groups ask server t)
-    hears hand q groups h None so = record { so = h; same = refl; none = tt }
-    hears hand q groups h (Some r) so = record {
-      so = record { reading = told_so f.e f.begun f.end f.last f.at_first q hand.seg r groups ask server t told so; dropped = h.dropped };
+    -- of the segment that is read it had been asked
+    told_of : (q : Questions) (segment : SegRef) (r : ReadingState) → ReadingSo (until f place) q segment r → ask ≡ r.ask → is_asking r.stage ≡ true
+        → asks r.round server ≡ true → HasTold f.e nodes.Cleaner f.begun f.end segment.name r.ask server t
+    told_of q segment r was ours on awaits =
+        subst (λ (n : ℕ). HasTold f.e nodes.Cleaner f.begun f.end segment.name n server t) ours
+        (told segment.name
+        (subst (λ (n : ℕ). HasFetched f.e nodes.Cleaner f.begun place segment.name n server) (sym ours)
+        (was_asked f.e f.begun place f.last f.at_first q segment r server was on awaits)))
+
+    hears : (hand : Hand) (q : Questions) (groups : GroupMapState) → HandSo f q hand → (r : Option ReadingState)
+        → IfSome r (ReadingSo (until f place) q hand.seg) → IfSome r (ReadingSo f q hand.seg) → HearsSo hand q (hears_by hand r groups ask server t)
+    hears hand q groups h None was so = record { so = h; same = refl; none = tt }
+    hears hand q groups h (Some r) was so = record {
+      so = record {
+        reading = told_so f.e f.begun f.end f.last f.at_first q hand.seg r groups ask server t (told_of q hand.seg r was) so;
+        dropped = h.dropped;
+      };
       same = refl;
       none = tells_no_loss r groups ask server t;
     }
 
-    by_hand : (s : Emptying) (job : Job) → s.job ≡ Some job → s.lasting.questions.last < u32_end → (groups : GroupMapState) (hand : Option Hand)
-        → job.hand ≡ hand
+    by_hand : (s : Emptying) (job : Job) → s.job ≡ Some job → s.lasting.questions.last < u32_end → At (until f place) s → (groups : GroupMapState)
+        (hand : Option Hand) → job.hand ≡ hand
         → (let h = jobs.emptying_with s (hand_hears_in job hand groups ask server t) in Goes f s (jobs.after_told h.state h.next))
     unfolding hand_hear
-    by_hand s job same room groups None seen h acted =
+    by_hand s job same room was groups None seen h acted =
         plainly f s (still (record s { job = Some job })) (λ k. job_now f s.lasting.items.unanswered s.lasting.questions s.maps.groups s.job job same k) tt h acted
-    by_hand s job same room groups (Some hand) seen h acted =
+    by_hand s job same room was groups (Some hand) seen h acted =
         let q : Questions = s.lasting.questions in
         let w : WorksSo f s.lasting.items.unanswered q s.maps.groups (record job { hand = Some hand }) =
         subst (λ (o : Option Hand). WorksSo f s.lasting.items.unanswered q s.maps.groups (record job { hand = o })) seen
         (job_now f s.lasting.items.unanswered q s.maps.groups s.job job same h) in
+        let v : WorksSo (until f place) s.lasting.items.unanswered q s.maps.groups (record job { hand = Some hand }) =
+        subst (λ (o : Option Hand). WorksSo (until f place) s.lasting.items.unanswered q s.maps.groups (record job { hand = o })) seen
+        (job_now (until f place) s.lasting.items.unanswered q s.maps.groups s.job job same was) in
         let x : Heard Hand = hears_by hand hand.reading groups ask server t in
-        let c = hears hand q groups w.hand hand.reading w.hand.reading in
+        let c = hears hand q groups w.hand hand.reading v.hand.reading w.hand.reading in
         after_goes s job x.state room x.next c.none
         (with_hand f s.lasting.items.unanswered q s.maps.groups (record job { hand = Some hand }) (Some x.state) c.so (λ k is. c.same ∙ is) (λ k is. c.same ∙ is) w)
         acted
 
-    pub tells_go : (s : Emptying) → s.lasting.questions.last < u32_end → Goes f s (jobs.on_told s (Some server) ask t)
+    pub tells_go : (s : Emptying) → s.lasting.questions.last < u32_end → At (until f place) s → Goes f s (jobs.on_told s (Some server) ask t)
     unfolding jobs.on_told jobs.emptying_hear job_hear
-    tells_go s room = by s.job refl s.maps.groups
+    tells_go s room was = by s.job refl s.maps.groups
       where
         by : (o : Option Job) → s.job ≡ o → (groups : Option GroupMapState)
             → (let h = jobs.told_in s o groups ask server t in Goes f s (jobs.after_told h.state h.next))
         by None same groups = rests f s
         by (Some job) same None = rests f s
-        by (Some job) same (Some groups) = by_hand s job same room groups job.hand refl
+        by (Some job) same (Some groups) = by_hand s job same room was groups job.hand refl

@@ -32,12 +32,13 @@ use Rattle.xfs_base.proofs.Alls.{all_append, all_map}
 use Rattle.xfs_base.proofs.Booleans.{and_second, by_test, contrary}
 use Rattle.xfs_base.specs.declared.fragment.FragMeta.{FragMeta}
 use Rattle.xfs_base.specs.declared.news.SlotNews.{SlotNews}
+use Rattle.xfs_base.specs.declared.node.NodeId.TheVariants as nodes
 use Rattle.xfs_base.specs.declared.segment.SegName.{SegName}
 use Rattle.xfs_base.specs.declared.segment.SegRef.{SegRef}
 use Rattle.xfs_base.specs.Limits.{u32_end}
 use Rattle.xfs_base.specs.Steps.{still}
 use Rattle.run_answers.proofs.clean_law.Choice.{chosen_taken}
-use Rattle.run_answers.proofs.clean_law.Evidence.{ListCame}
+use Rattle.run_answers.proofs.number_law.Tellings.{ListCame}
 use Rattle.run_answers.proofs.clean_law.Standing.{DueSo, EmptyingSo, HandOf, InHand, ListingSo, PhaseSo, Welcomed, dropped_one, lost_one}
 use Rattle.run_answers.proofs.number_law.Turning.{IsCalm}
 use Rattle.headline.specs.Cleanings.{AreCandidates, AreEmptied, IsDropped, IsLost, candidates_by}
@@ -120,7 +121,7 @@ module _ (e : Estate AnyNode) (begun end last : ℕ) (at_first : Option GroupMap
   -- such a list came, under the question that is out
   pub record ListSo (server : ℕ) (held : List FragMeta) : Type 0 where
     pub list : Listed
-    pub come : ListCame e begun end (server, list)
+    pub come : ListCame e nodes.Cleaner begun end (server, list)
     pub held_is : held ≡ list.held
     pub under : asked ≡ Some list.ask
     pub newer : last < list.ask
@@ -262,7 +263,7 @@ module _ (e : Estate AnyNode) (begun end last : ℕ) (at_first : Option GroupMap
       welcomed = h.welcomed;
       slots = h.slots;
       lists = lists;
-      come = all_append (ListCame e begun end) h.lists ((server, m.list) ∷ []) h.come (m.come, tt);
+      come = all_append (ListCame e nodes.Cleaner begun end) h.lists ((server, m.list) ∷ []) h.come (m.come, tt);
       under = all_append (λ (list : ℕ × Listed). asked ≡ Some list.1.ask) h.lists ((server, m.list) ∷ []) h.under (m.under, tt);
       all = λ x there. all_of x (h.all x there);
       are = ap (λ (slots : List SlotNews). candidates_with slots held l.candidates) h.slots

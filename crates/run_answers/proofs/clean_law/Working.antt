@@ -47,7 +47,7 @@ use Rattle.xfs_base.specs.declared.segment.SegName.{SegName}
 use Rattle.xfs_base.specs.declared.segment.SegRef.{SegRef}
 use Rattle.xfs_base.specs.Segments.{same_name, same_segment}
 use Rattle.xfs_base.specs.Steps.{steps, still}
-use Rattle.run_answers.proofs.clean_law.Frames.{Acted, At, DueSo, EffectSo, Empties, Frame, Goes, HandSo, HasAsked, InputSo, IsDropped, JobSo, Knows, Leads, PhaseSo, TurnSo, WorksSo, from_goes, plainly, quiet_leads, rests, steps_go, then_goes}
+use Rattle.run_answers.proofs.clean_law.Frames.{Acted, At, DueSo, EffectSo, Empties, Frame, Goes, HandSo, HasFetched, InputSo, IsDropped, JobSo, Knows, Leads, PhaseSo, TurnSo, WorksSo, from_goes, plainly, quiet_leads, rests, steps_go, then_goes}
 use Rattle.run_answers.proofs.clean_law.Readings.{begins_so, next_least, next_newer}
 use Rattle.run_answers.proofs.clean_law.Standing.{HandOf, InHand, hand_newer, parts}
 use Rattle.run_answers.proofs.clean_law.Turns.{count_stays, taken_so}
@@ -291,7 +291,7 @@ module _ (f : Frame) where
 
   -- servers that it asks in this event it has asked
   pub asks_acted : (name : SegName) (ask : ℕ) (servers : List ℕ) → AllByRecursion (Acted f) (map (fetch name ask) servers)
-      → AllByRecursion (HasAsked f name ask) servers
+      → AllByRecursion (HasFetched f name ask) servers
   asks_acted name ask [] acted = tt
   asks_acted name ask (server ∷ servers) acted = (acted.0, asks_acted name ask servers acted.1)
 

@@ -38,7 +38,8 @@ use Rattle.xfs_base.specs.declared.segment.SegName.{SegName}
 use Rattle.xfs_base.specs.Segments.{same_name, seg_cmp}
 use Rattle.xfs_base.specs.Stamps.{is_greater}
 use Rattle.xfs_base.specs.Steps.{saying, steps}
-use Rattle.headline.specs.Numbers.{AreCounted, BeganAt, HasAsked, IsRebuilt}
+use Rattle.headline.specs.Numbers.{AreCounted, BeganAt, IsRebuilt}
+use Rattle.headline.specs.Tellings.{HasFetched}
 use Rattle.run_answers.proofs.number_law.Running.{AskedOf, Behind, NodeSo, PresentSo, ReadingSo, RunsSo}
 
 -- ---- the shelf
@@ -154,7 +155,7 @@ module _ (e : Estate AnyNode) (v count : ℕ) where
 
   -- in this event it asks another server for its fragment of a segment, under a question
   abbrev pub AsksNow : ℕ → Fetch → Type 0
-  AsksNow other m = (begun : ℕ) → begun < count → HasAsked e v begun (suc count) m.name m.ask other
+  AsksNow other m = (begun : ℕ) → begun < count → HasFetched e (nodes.Server v) begun (suc count) m.name m.ask other
 
   -- what it asks a server for it asks in this event
   abbrev pub AskSo : ℕ → Body → Type 0

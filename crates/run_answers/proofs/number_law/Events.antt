@@ -48,7 +48,7 @@ use Rattle.xfs_base.specs.declared.node.NodeId.TheVariants as nodes
 use Rattle.xfs_base.specs.Segments.{pass_cmp}
 use Rattle.xfs_base.specs.Steps.{still}
 use Rattle.headline.specs.Moments.{moment, node_named}
-use Rattle.headline.specs.Numbers.{HasCome}
+use Rattle.headline.specs.Tellings.{HasCome}
 use Rattle.headline.specs.Servers.{shelf_at}
 use Rattle.run_answers.proofs.number_law.Asking.{Acted, EffectSo, Leads, repeats_lead}
 use Rattle.run_answers.proofs.number_law.Running.{NodeSo, SoFar, so_later}
@@ -190,7 +190,7 @@ module _ (e : Estate AnyNode) (v count : ℕ) where
     module _ (its : node_named (moment e count) (nodes.Server v) ≡ Some (any.Server node)) (packet : Packet)
         (happens : slice_get e.events count ≡ Some (Deliver packet)) (to_it : packet.to ≡ nodes.Server v) where
       abbrev come : (begun : ℕ) → begun < count → (from : ℕ) → server_in packet.from ≡ Some from → (said : Body) → packet.body ≡ said
-          → HasCome e v begun (suc count) from said
+          → HasCome e (nodes.Server v) begun (suc count) (nodes.Server from) said
       come begun since from sender said says = record {
         place = count;
         since = since;

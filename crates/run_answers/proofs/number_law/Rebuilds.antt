@@ -146,7 +146,7 @@ module _ (e : Estate AnyNode) where
           (in_map (sent_at took.clock) (asking other m) (packets_of (nodes.Server node.number) outs)
           (sent (nodes.Server node.number) (nodes.Server other) (body.Fetch m) outs among));
       from_it = ap nodes.Server number;
-      to_other = refl;
+      to_server = refl;
       says = refl;
     }
 

@@ -22,9 +22,11 @@ use Rattle.xfs_base.specs.declared.fragment.FragMeta.{FragMeta}
 use Rattle.xfs_base.specs.declared.node.NodeId.TheVariants as nodes
 use Rattle.xfs_base.specs.declared.segment.SegName.{SegName}
 use Rattle.xfs_base.specs.Limits.{u32_end}
-use Rattle.headline.specs.Numbers.{AreCounted, BeganAt, HasAsked, HasTold, IsFilled, IsGone, IsLacking, IsReplyOf, listed_by}
+use Rattle.headline.specs.Numbers.{AreCounted, BeganAt, IsFilled, IsGone, IsLacking, IsReplyOf, listed_by}
 use Rattle.headline.specs.Numbers.AreCounted.{OneFilled, OneGone}
-use Rattle.run_answers.proofs.number_law.Evidence.{IsAskedAs, ListCame, Replied, asked_later, counted_later, lacking_later, lists_later, replies_later}
+use Rattle.headline.specs.Tellings.{HasFetched, HasTold}
+use Rattle.run_answers.proofs.number_law.Evidence.{IsAskedAs, counted_later, lacking_later}
+use Rattle.run_answers.proofs.number_law.Tellings.{ListCame, Replied, fetched_later, lists_later, replies_later}
 
 -- a round over the other members of a segment's group, with these replies
 abbrev pub round_of : Wanted → List Reply → RoundSoFar
@@ -38,20 +40,20 @@ module _ (e : Estate AnyNode) (v begun end : ℕ) where
   -- under this question these servers are heard, and this is listed
   pub record ListsSo (ask : ℕ) (heard : List ℕ) (listed : List (SegName × FragMeta)) : Type 0 where
     pub lists : List (ℕ × Listed)
-    pub come : AllByRecursion (ListCame e v begun end) lists
+    pub come : AllByRecursion (ListCame e (nodes.Server v) begun end) lists
     pub asked : AllByRecursion (IsAskedAs ask) lists
     pub heard_of : heard ≡ map (λ (list : ℕ × Listed). list.0) lists
     pub listed_of : listed ≡ listed_by lists
 
   -- another server was asked for its fragment, under the question that is out for this one of the rebuild's
   abbrev pub AskedOf : SegName → Asked → ℕ → ℕ → Type 0
-  AskedOf name fetches own other = (fetches.own ≡ own) × HasAsked e v begun end name fetches.ask other
+  AskedOf name fetches own other = (fetches.own ≡ own) × HasFetched e (nodes.Server v) begun end name fetches.ask other
 
   -- the round that is under way, for this question of the rebuild's
   pub record PresentSo (fetches : Asked) (own : ℕ) (p : Present) : Type 0 where
     pub is : p.round ≡ round_of p.wanted p.round.answers
     pub asked : AllByRecursion (AskedOf p.wanted.meta.name fetches own) p.wanted.others
-    pub come : AllByRecursion (Replied e v begun end p.wanted.meta.name fetches.ask) p.round.answers
+    pub come : AllByRecursion (Replied e (nodes.Server v) begun end p.wanted.meta.name fetches.ask) p.round.answers
     pub fit : AllByRecursion (IsReplyOf p.wanted) p.round.answers
 
   -- so many are filled in and gone, before these that are left of all
@@ -112,7 +114,7 @@ module _ (e : Estate AnyNode) (v begun end : ℕ) where
 
   -- a server replied, and so the round stands with that
   pub round_taken : (fetches : Asked) (own : ℕ) (p : Present) (server : ℕ) (t : Told) → PresentSo fetches own p
-      → IsReplyOf p.wanted (record { server = server; told = t }) → HasTold e v begun end p.wanted.meta.name fetches.ask server t
+      → IsReplyOf p.wanted (record { server = server; told = t }) → HasTold e (nodes.Server v) begun end p.wanted.meta.name fetches.ask server t
       → PresentSo fetches own (record { wanted = p.wanted; round = round_take p.round server t })
   unfolding round_take
   round_taken fetches own p server t h fits new =
@@ -121,7 +123,8 @@ module _ (e : Estate AnyNode) (v begun end : ℕ) where
       (λ _. record {
         is = ap (λ (r : RoundSoFar). record r { answers = p.round.answers ++ record { server = server; told = t } ∷ [] }) h.is;
         asked = h.asked;
-        come = all_append (Replied e v begun end p.wanted.meta.name fetches.ask) p.round.answers (record { server = server; told = t } ∷ []) h.come (new, tt);
+        come = all_append (Replied e (nodes.Server v) begun end p.wanted.meta.name fetches.ask) p.round.answers
+            (record { server = server; told = t } ∷ []) h.come (new, tt);
         fit = all_append (IsReplyOf p.wanted) p.round.answers (record { server = server; told = t } ∷ []) h.fit (fits, tt);
       })
 
@@ -147,8 +150,8 @@ module _ (e : Estate AnyNode) (v begun end : ℕ) where
   present_later fetches own (Some p) h = record {
     is = h.is;
     asked = all_weaker (AskedOf e v begun end p.wanted.meta.name fetches own) (AskedOf e v begun (suc end) p.wanted.meta.name fetches own)
-        (λ other one. (one.0, asked_later e v begun end p.wanted.meta.name fetches.ask other one.1)) p.wanted.others h.asked;
-    come = replies_later e v begun end p.wanted.meta.name fetches.ask p.round.answers h.come;
+        (λ other one. (one.0, fetched_later e (nodes.Server v) begun end p.wanted.meta.name fetches.ask other one.1)) p.wanted.others h.asked;
+    come = replies_later e (nodes.Server v) begun end p.wanted.meta.name fetches.ask p.round.answers h.come;
     fit = h.fit;
   }
 
@@ -156,7 +159,7 @@ module _ (e : Estate AnyNode) (v begun end : ℕ) where
       → ReadingSo e v begun end ask fetches heard listed r → ReadingSo e v begun (suc end) ask fetches heard listed r
   reading_later ask fetches heard listed None h = record {
     lists = h.lists;
-    come = lists_later e v begun end h.lists h.come;
+    come = lists_later e (nodes.Server v) begun end h.lists h.come;
     asked = h.asked;
     heard_of = h.heard_of;
     listed_of = h.listed_of;

@@ -39,12 +39,14 @@ use Rattle.xfs_base.specs.Segments.{same_name}
 use Rattle.xfs_base.specs.Steps.{Stepped, steps, still}
 use Rattle.run_laws.proofs.world_reads.ManagerOwed.{one_among}
 use Rattle.headline.specs.Moments.{moment, node_named}
-use Rattle.headline.specs.Numbers.{HasAsked, HasCome, HasTold, IsLacking, IsReplyOf, IsToldOf, RoundStands, listed_by}
+use Rattle.headline.specs.Numbers.{IsLacking, IsReplyOf, RoundStands, listed_by}
 use Rattle.headline.specs.Numbers.AreCounted.{NoneYet}
 use Rattle.headline.specs.Servers.{shelf_at}
+use Rattle.headline.specs.Tellings.{HasCome, HasFetched, HasTold, IsOfSegment}
 use Rattle.run_answers.proofs.number_law.Asking.{Leads, Open, fill_stands, next_leads, next_shelf, with_reading}
 use Rattle.run_answers.proofs.number_law.Awaiting.{all_told, in_heard}
-use Rattle.run_answers.proofs.number_law.Evidence.{IsAskedAs, ListCame}
+use Rattle.run_answers.proofs.number_law.Evidence.{IsAskedAs}
+use Rattle.run_answers.proofs.number_law.Tellings.{ListCame}
 use Rattle.run_answers.proofs.number_law.Running.{AskedOf, Behind, ListsSo, PresentSo, ReadingSo, ReadsSo, RunsSo, filled_one, gone_one, here, reading_later, round_of, round_taken}
 
 -- the server, once the rebuild has taken a step, and done what it says
@@ -67,7 +69,7 @@ filled_name w text = refl
 
 -- what counts in a round is a reply of its segment
 module _ (p : Present) (is : p.round ≡ round_of p.wanted p.round.answers) where
-  told_of : (what : Told) → is_of p.wanted what ≡ true → IsToldOf p.wanted what
+  told_of : (what : Told) → is_of p.wanted what ≡ true → IsOfSegment p.wanted.meta.name what
   told_of (Held f) fact = one_name f.meta.name p.wanted.meta.name (and_first (same_name f.meta.name p.wanted.meta.name) _ fact)
   told_of (Missing generation) fact = tt
 
@@ -110,14 +112,15 @@ module _ (e : Estate AnyNode) (v count : ℕ) (node : Node) (r : Rebuilding)
   -- ---- a list
 
   module _ (its : node_named (moment e count) (nodes.Server v) ≡ Some (any.Server node)) (server : ℕ) (m : Listed)
-      (come : HasCome e v so.begun (suc count) server (body.Listed m)) (under_way : node.rebuilding ≡ Some r) (its_ask : m.ask ≡ r.lists) where
+      (come : HasCome e (nodes.Server v) so.begun (suc count) (nodes.Server server) (body.Listed m))
+      (under_way : node.rebuilding ≡ Some r) (its_ask : m.ask ≡ r.lists) where
     abbrev t : RebuildState
     t = heard_from r.rebuild server m.held
 
     with_list : ListsSo e v so.begun (suc count) r.lists r.rebuild.heard r.rebuild.listed → ListsSo e v so.begun (suc count) r.lists t.heard t.listed
     with_list l = record {
       lists = l.lists ++ (server, m) ∷ [];
-      come = all_append (ListCame e v so.begun (suc count)) l.lists ((server, m) ∷ []) l.come (come, tt);
+      come = all_append (ListCame e (nodes.Server v) so.begun (suc count)) l.lists ((server, m) ∷ []) l.come (come, tt);
       asked = all_append (IsAskedAs r.lists) l.lists ((server, m) ∷ []) l.asked (its_ask, tt);
       heard_of = ap (λ (xs : List ℕ). xs ++ server ∷ []) l.heard_of ∙ sym (map-append (λ (list : ℕ × Listed). list.0) l.lists ((server, m) ∷ []));
       listed_of = ap (listed_with m.held) l.listed_of ∙ sym (listed_more l.lists (server, m));
@@ -193,7 +196,8 @@ module _ (e : Estate AnyNode) (v count : ℕ) (node : Node) (r : Rebuilding)
   Goes d = shelf_at (moment e (suc count)) v ≡ Some d.state.shelf → Leads e v count d
 
   module _ (server own : ℕ) (what : Told)
-      (told : (name : SegName) → HasAsked e v so.begun count name r.fetches.ask server → HasTold e v so.begun (suc count) name r.fetches.ask server what) where
+      (told : (name : SegName) → HasFetched e (nodes.Server v) so.begun count name r.fetches.ask server
+      → HasTold e (nodes.Server v) so.begun (suc count) name r.fetches.ask server what) where
     open_at : (shelf : ShelfState) (left : List Wanted) (reads : ReadsState) → Behind e v so.begun (suc count) left reads.filled reads.gone
         → Open e v count (record node { shelf = shelf }) r.rebuild left reads
     open_at shelf left reads behind = record {
@@ -209,7 +213,7 @@ module _ (e : Estate AnyNode) (v count : ℕ) (node : Node) (r : Rebuilding)
 
     module _ (reads : ReadsState) (p : Present) (left : Behind e v so.begun (suc count) (p.wanted ∷ reads.left) reads.filled reads.gone)
         (present : PresentSo e v so.begun (suc count) r.fetches reads.ask p) (fits : IsReplyOf p.wanted (record { server = server; told = what }))
-        (asked : HasAsked e v so.begun count p.wanted.meta.name r.fetches.ask server) where
+        (asked : HasFetched e (nodes.Server v) so.begun count p.wanted.meta.name r.fetches.ask server) where
       abbrev round : RoundSoFar
       round = round_take p.round server what
 
